@@ -19,3 +19,6 @@ pub use codes::{Code, Kind};
 pub use jumps::Jump;
 pub use reaching::{admits, one_jump_to_a_label, outcomes, reach};
 pub use readings::Tests;
+
+#[cfg(test)]
+mod worked_examples;
