@@ -1,6 +1,7 @@
 //! One clock of the 3001.
 ghost use Rattle.std.specs.Prelude.{◌≡◌, ◌<◌};
 ghost use Rattle.mcu_jumps.specs.NextAddress.{next_of};
+ghost use Rattle.mcu_chip.specs.ChipState.{IsChipState};
 ghost use Rattle.mcu_chip.specs.FlagStep.{flag_out, readings_of, next_c, next_z, next_pr, is_strobe, pr_shown};
 
 use crate::{FlagCtl, FlagIn, FlagOut, Mcu, McuOut};
@@ -49,6 +50,7 @@ pub fn step(mcu: &Mcu, jump: Jump, ctl: FlagCtl, fi: bool, px: u8, sx: u8) -> Mc
     ensures pr { result.mcu.pr ≡ next_pr jump.code mcu.now.pr sx }
     ensures ise { result.ise ≡ is_strobe jump.code jump.operand }
     ensures pr_out { result.pr_out ≡ pr_shown jump.code mcu.now.pr }
+    ensures in_range { IsChipState result.mcu }
 {
     // F takes the flag input before the next address is formed; the others are tested as they stood.
     let tests = Tests {
