@@ -1,0 +1,4 @@
+pub mod Targets
+pub mod Labels
+pub mod Valid
+pub mod Graph

@@ -1,0 +1,65 @@
+//! Instructions: what one line of the source says.
+ghost use Rattle.std.specs.Prelude.{◌≡◌, Some, is_some, position, length};
+ghost use Rattle.mcu_jumps.specs.Landing.{outcomes_of};
+ghost use Rattle.flow_graph.specs.Targets.{HasLabel};
+
+use crate::{Name, Targets};
+use mcu_jumps::Kind;
+use std::marker::Model;
+
+/// An instruction: its name, the line of the source that it stands in, and its flow statement.
+#[derive(Drop)]
+pub struct Instr {
+    pub name: Name,
+    pub line: u32,
+    pub kind: Kind,
+    pub targets: Targets,
+}
+
+/// The instructions of a program, in source order. The place of one is its label.
+#[derive(Drop)]
+pub struct Instrs {
+    items: Vec<Instr>,
+}
+
+impl Model for Instrs {
+    ghost use Rattle.std.specs.Prelude.{List};
+    ghost use Rattle.flow_graph.specs.declared.instructions.Instr.{Instr};
+
+    ghost Value = { List Instr };
+
+    ghost view = { λ instrs. instrs.items.items };
+}
+
+impl Instrs {
+    pub fn of(items: Vec<Instr>) -> Self
+        ensures { result ≡ items.items }
+    {
+        Instrs { items }
+    }
+
+    pub fn as_slice(&self) -> &[Instr]
+        ensures { result.now ≡ self.now }
+    {
+        &self.items
+    }
+}
+
+// The first outcome whose target is a label.
+fn first_label(targets: &[Option<u16>]) -> Option<usize>
+    ensures { result ≡ position is_some targets.now }
+{
+    targets.iter().position(|target| target.is_some())
+}
+
+/// The first outcome whose target is a label.
+pub fn first_real(instr: &Instr) -> u8
+    requires count { length instr.now.targets ≡ outcomes_of instr.now.kind }
+    requires label { HasLabel instr.now.targets }
+    ensures { position is_some instr.now.targets ≡ Some result }
+{
+    match first_label(instr.targets.as_slice()) {
+        Some(outcome) => outcome as u8,
+        None => unreachable!(),
+    }
+}

@@ -1,0 +1,87 @@
+//! A program: instructions, pins, the row bound and the start, which fit together.
+ghost use Rattle.std.specs.Prelude.{◌≡◌, ◌<◌, length, slice_get, Some, IfSome, IfNone};
+ghost use Rattle.flow_graph.specs.Valid.{IsProgram};
+ghost use Rattle.flow_graph.specs.Labels.{HasName, HasNoName};
+
+use crate::{Instr, Instrs, Pins};
+
+/// A program whose parts fit together. `rows` is the row bound, 1 to 32: a legal placement keeps all
+/// rows below it. `start` is the label where the flow begins.
+#[derive(Drop)]
+pub struct Program {
+    rows: u8,
+    start: u16,
+    pins: Pins,
+    instrs: Instrs,
+    pub ghost valid: { IsProgram rows start pins instrs },
+}
+
+impl Program {
+    ghost use Rattle.flow_graph.specs.Graph.{graph_of};
+
+    pub fn new(rows: u8, start: u16, pins: Pins, instrs: Instrs) -> Program
+        requires { IsProgram rows start pins instrs }
+        ensures { graph_of result ≡ record { rows = rows; start = start; pins = pins; instrs = instrs } }
+    {
+        Program {
+            rows,
+            start,
+            pins,
+            instrs,
+        }
+    }
+
+    /// The row bound.
+    pub fn rows(&self) -> u8
+        ensures { result ≡ (graph_of self.now).rows }
+    {
+        self.rows
+    }
+
+    /// The label where the flow begins.
+    pub fn start(&self) -> u16
+        ensures { result ≡ (graph_of self.now).start }
+    {
+        self.start
+    }
+
+    pub fn pins(&self) -> &Pins
+        ensures { result.now ≡ (graph_of self.now).pins }
+    {
+        &self.pins
+    }
+
+    pub fn instrs(&self) -> &Instrs
+        ensures { result.now ≡ (graph_of self.now).instrs }
+    {
+        &self.instrs
+    }
+
+    /// The number of instructions, 1 to 512.
+    pub fn len(&self) -> u16
+        ensures { result ≡ length (graph_of self.now).instrs }
+    {
+        self.instrs.as_slice().len() as u16
+    }
+
+    /// The instruction at a label.
+    pub fn instr(&self, label: u16) -> &Instr
+        requires { label < length (graph_of self.now).instrs }
+        ensures { slice_get (graph_of self.now).instrs label ≡ Some result.now }
+    {
+        &self.instrs.as_slice()[label as usize]
+    }
+
+    /// The label of a name.
+    pub fn find(&self, name: &[u8]) -> Option<u16>
+        ensures found { IfSome result (HasName (graph_of self.now).instrs name.now) }
+        ensures missing { IfNone result (HasNoName (graph_of self.now).instrs name.now) }
+    {
+        for label in 0..self.len() {
+            if self.instr(label).name.as_slice() == name {
+                return Some(label);
+            }
+        }
+        None
+    }
+}
