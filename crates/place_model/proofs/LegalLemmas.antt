@@ -1,0 +1,58 @@
+-- Legality from what each label's test told.
+use Rattle.std.proofs.Common.{ℕ, ◌≡◌, ◌<◌, ◌≤◌, List, length, Some, slice_get, refl, ap, ◌∙◌, arith}
+use Rattle.std.proofs.lemmas.Option.{slice_get_within}
+use Rattle.mcu_jumps.specs.Position.{Position}
+use Rattle.flow_graph.specs.declared.instructions.Instr.{Instr}
+use Rattle.flow_graph.specs.Graph.{Graph}
+use Rattle.place_model.specs.Legal.{IsLegal, KeepsPins, origin}
+use Rattle.place_model.specs.Faults.{StandsAt, IsRight, IsWrong, IsFirstFault, IsFaultlessBelow}
+use Rattle.place_model.specs.declared.faults.MapKind.{MapKind}
+use Rattle.place_model.specs.declared.faults.MapKind.TheVariants.{Unpinned, SameCell, RowBound, StartCell, NoJump}
+use Rattle.place_model.proofs.JumpLemmas.{cell_there}
+
+-- what the tests told of the instruction at a cell
+right_at : (g : Graph) (place : List Position) (label : ℕ) (cell : Position) → length place ≡ length g.instrs → IsFaultlessBelow g place (length place) → slice_get place label ≡ Some cell → (instr : Instr) × IsRight g place label instr cell
+right_at g place label cell count faultless at =
+    let within = slice_get_within place label cell at in
+    let there : (x : Instr) × (slice_get g.instrs label ≡ Some x) = cell_there g.instrs label (omega arith) in
+    (there.0, faultless label within there.0 cell (record { at_label = there.1; at_cell = at }))
+
+-- a placement that keeps the pins, with nothing wrong at any label, is legal
+pub IsLegal-from_faultless : (g : Graph) (place : List Position) → length place ≡ length g.instrs → g.start < length g.instrs → KeepsPins g.pins place → IsFaultlessBelow g place (length place) → IsLegal g place
+IsLegal-from_faultless g place count start pins faultless = record {
+  cell_for_each_label = count;
+  in_matrix = λ label cell at. (right_at g place label cell count faultless at).1.in_matrix;
+  cells_differ = λ i j cell at_i at_j. differ i j cell at_i at_j;
+  pins_kept = pins;
+  start_at_origin =
+      (let there : (x : Position) × (slice_get place g.start ≡ Some x) = cell_there place g.start (omega arith) in
+      there.1 ∙ ap Some ((right_at g place g.start there.0 count faultless there.1).1.start_at_origin refl));
+  below_bound = λ label cell at. (right_at g place label cell count faultless at).1.below_bound;
+  each_has_jump = λ label instr from at_label at_cell.
+      (faultless label (slice_get_within place label from at_cell) instr from (record { at_label = at_label; at_cell = at_cell })).has_jump;
+}
+  where
+    differ : (i j : ℕ) (cell : Position) → slice_get place i ≡ Some cell → slice_get place j ≡ Some cell → i ≡ j
+    differ i j cell at_i at_j =
+        let not_before : i < j → ⊥ = λ lt. (right_at g place j cell count faultless at_j).1.apart i lt at_i in
+        let not_after : j < i → ⊥ = λ lt. (right_at g place i cell count faultless at_i).1.apart j lt at_j in
+        omega arith
+
+-- a legal placement has nothing wrong at any label
+pub IsLegal-refutes_fault : (g : Graph) (place : List Position) (line : ℕ) (kind : MapKind) → IsLegal g place → IsFirstFault g place line kind → ⊥
+IsLegal-refutes_fault g place line Unpinned legal fault = fault.5
+IsLegal-refutes_fault g place line SameCell legal fault =
+    let wrong = fault.5 in
+    let same : wrong.0 ≡ fault.0 = legal.cells_differ wrong.0 fault.0 fault.2 wrong.2 fault.3.at_cell in
+    omega (arith, wrong.1)
+IsLegal-refutes_fault g place line RowBound legal fault =
+    omega (arith, legal.below_bound fault.0 fault.2 fault.3.at_cell, fault.5.1)
+IsLegal-refutes_fault g place line StartCell legal fault =
+    let here : slice_get place fault.0 ≡ Some fault.2 = fault.3.at_cell in
+    let start : fault.0 ≡ g.start = fault.5.2 in
+    let there : slice_get place g.start ≡ Some origin = legal.start_at_origin in
+    let same : fault.2 ≡ origin = cc (ap (slice_get place) start) in
+    fault.5.3 same
+IsLegal-refutes_fault g place line NoJump legal fault =
+    let found = legal.each_has_jump fault.0 fault.1 fault.2 fault.3.at_label fault.3.at_cell in
+    fault.5.3 found.0 found.1

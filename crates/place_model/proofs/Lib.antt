@@ -1,0 +1,4 @@
+pub mod JumpLemmas
+pub mod LegalLemmas
+pub mod PinLemmas
+pub mod LineLemmas
