@@ -37,22 +37,3 @@ IsLegal-from_faultless g place count start pins faultless = record {
         let not_before : i < j → ⊥ = λ lt. (right_at g place j cell count faultless at_j).1.apart i lt at_i in
         let not_after : j < i → ⊥ = λ lt. (right_at g place i cell count faultless at_i).1.apart j lt at_j in
         omega arith
-
--- a legal placement has nothing wrong at any label
-pub IsLegal-refutes_fault : (g : Graph) (place : List Position) (line : ℕ) (kind : MapKind) → IsLegal g place → IsFirstFault g place line kind → ⊥
-IsLegal-refutes_fault g place line Unpinned legal fault = fault.5
-IsLegal-refutes_fault g place line SameCell legal fault =
-    let wrong = fault.5 in
-    let same : wrong.0 ≡ fault.0 = legal.cells_differ wrong.0 fault.0 fault.2 wrong.2 fault.3.at_cell in
-    omega (arith, wrong.1)
-IsLegal-refutes_fault g place line RowBound legal fault =
-    omega (arith, legal.below_bound fault.0 fault.2 fault.3.at_cell, fault.5.1)
-IsLegal-refutes_fault g place line StartCell legal fault =
-    let here : slice_get place fault.0 ≡ Some fault.2 = fault.3.at_cell in
-    let start : fault.0 ≡ g.start = fault.5.2 in
-    let there : slice_get place g.start ≡ Some origin = legal.start_at_origin in
-    let same : fault.2 ≡ origin = cc (ap (slice_get place) start) in
-    fault.5.3 same
-IsLegal-refutes_fault g place line NoJump legal fault =
-    let found = legal.each_has_jump fault.0 fault.1 fault.2 fault.3.at_label fault.3.at_cell in
-    fault.5.3 found.0 found.1

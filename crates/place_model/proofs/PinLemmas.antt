@@ -27,14 +27,6 @@ KeepsPins-from_pinned g place valid pinned k pin at =
     let cells : there.0 ≡ pin.cell = cc in
     there.1 ∙ ap Some cells
 
--- the first fault of the pinned cells is why the program is refused
-pub IsRefusal-from_fault : (g : Graph) (place : List Position) (line : ℕ) (kind : MapKind) → ArePinnedCells g place → IsFirstFault g place line kind → IsRefusal g (At line kind)
-IsRefusal-from_fault g place line Unpinned pinned fault = absurd fault.5
-IsRefusal-from_fault g place line SameCell pinned fault = (place, pinned, fault)
-IsRefusal-from_fault g place line RowBound pinned fault = (place, pinned, fault)
-IsRefusal-from_fault g place line StartCell pinned fault = (place, pinned, fault)
-IsRefusal-from_fault g place line NoJump pinned fault = (place, pinned, fault)
-
 -- an element stays where it is when one more is added
 slice_get_before : {X : Type 0} → (xs : List X) (y : X) (i : ℕ) (x : X) → slice_get xs i ≡ Some x → slice_get (xs ++ y ∷ []) i ≡ Some x
 slice_get_before [] y i x at = absurd (cc at)

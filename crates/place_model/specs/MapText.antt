@@ -15,11 +15,17 @@ hex_digit n = if nat_lt n 10 then 48 + n else 87 + n
 abbrev pub hex_byte : ℕ → List ℕ
 hex_byte n = hex_digit (n / 16) ∷ hex_digit (n % 16) ∷ []
 
--- the line of a label: name, row.column, AC value, code and operand
+-- a cell: row.column
+abbrev pub cell_text : Position → List ℕ
+cell_text cell = decimal cell.row ++ codes "." ++ decimal cell.col
+
+-- a jump: AC value, code and operand
+abbrev pub jump_text : JumpWord → List ℕ
+jump_text jump = hex_byte (ac_of jump) ++ codes " " ++ name_of jump.code ++ codes " " ++ decimal jump.operand
+
+-- the line of a label: name, cell and jump
 abbrev pub map_line : List ℕ → Position → JumpWord → List ℕ
-map_line name cell jump =
-    name ++ codes " " ++ decimal cell.row ++ codes "." ++ decimal cell.col ++ codes " "
-    ++ hex_byte (ac_of jump) ++ codes " " ++ name_of jump.code ++ codes " " ++ decimal jump.operand ++ codes "\n"
+map_line name cell jump = name ++ codes " " ++ cell_text cell ++ codes " " ++ jump_text jump ++ codes "\n"
 
 -- the text is a line for each of these instructions at these cells, with the jump that it becomes there
 abbrev pub AreLines : List Position → List Instr → List Position → List ℕ → Type 0

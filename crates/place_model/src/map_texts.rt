@@ -2,7 +2,7 @@
 ghost use Rattle.std.specs.Prelude.{◌≡◌, ◌<◌, ◌++◌, IfOk, OnOk};
 ghost use Rattle.flow_graph.specs.Graph.{graph_of};
 ghost use Rattle.place_model.specs.Legal.{IsLegal};
-ghost use Rattle.place_model.specs.MapText.{IsMapText, hex_digit, map_line};
+ghost use Rattle.place_model.specs.MapText.{IsMapText, cell_text, hex_digit, jump_text, map_line};
 
 use crate::{Placement, jump_of};
 use flow_graph::Program;
@@ -23,23 +23,37 @@ fn hex_digit(value: u8) -> u8
     }
 }
 
-// Adds the line of a label.
-fn add_line(out: &mut Vec<u8>, name: &[u8], cell: Cell, jump: Jump) -> Result<(), AllocError>
-    ensures { OnOk result (out.new.items ≡ out.old.items ++ map_line name.now cell jump) }
+// Adds the row and the column of a cell.
+fn add_cell(out: &mut Vec<u8>, cell: Cell) -> Result<(), AllocError>
+    ensures { OnOk result (out.new.items ≡ out.old.items ++ cell_text cell) }
 {
     let mut number = Buffer::new();
-    let ac = jump.encode();
-    out.extend_from_slice(name)?;
-    out.extend_from_slice(b" ")?;
     out.extend_from_slice(number.format(cell.row()).as_bytes())?;
     out.extend_from_slice(b".")?;
-    out.extend_from_slice(number.format(cell.col()).as_bytes())?;
-    out.extend_from_slice(b" ")?;
+    out.extend_from_slice(number.format(cell.col()).as_bytes())
+}
+
+// Adds the AC value of a jump, and its code and operand.
+fn add_jump(out: &mut Vec<u8>, jump: Jump) -> Result<(), AllocError>
+    ensures { OnOk result (out.new.items ≡ out.old.items ++ jump_text jump) }
+{
+    let ac = jump.encode();
     out.extend_from_slice(&[hex_digit(ac / 16), hex_digit(ac % 16)])?;
     out.extend_from_slice(b" ")?;
     out.extend_from_slice(jump.code().name().as_bytes())?;
     out.extend_from_slice(b" ")?;
-    out.extend_from_slice(number.format(jump.operand()).as_bytes())?;
+    out.extend_from_slice(Buffer::new().format(jump.operand()).as_bytes())
+}
+
+// Adds the line of a label.
+fn add_line(out: &mut Vec<u8>, name: &[u8], cell: Cell, jump: Jump) -> Result<(), AllocError>
+    ensures { OnOk result (out.new.items ≡ out.old.items ++ map_line name.now cell jump) }
+{
+    out.extend_from_slice(name)?;
+    out.extend_from_slice(b" ")?;
+    add_cell(out, cell)?;
+    out.extend_from_slice(b" ")?;
+    add_jump(out, jump)?;
     out.extend_from_slice(b"\n")
 }
 
