@@ -1,0 +1,9 @@
+pub mod Causes
+pub mod Shelf
+pub mod Sink
+pub mod Loading
+pub mod ShelfCounts
+pub mod Calls
+pub mod MemFiles
+pub mod MemShelf
+pub mod MemSink

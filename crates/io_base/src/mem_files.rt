@@ -1,0 +1,70 @@
+//! Files in memory: a map of names to bytes.
+ghost use Rattle.std.specs.Prelude.{◌≡◌, ◌≢◌, ◌≤◌, [], ◌++◌, length, ℕ, List, Some, OnOk, OnErr};
+ghost use Rattle.io_base.specs.Shelf.{Reads, bytes_or_empty};
+ghost use Rattle.io_base.specs.MemFiles.{file_in};
+
+use crate::OutOfMemory;
+use std::alloc::Global;
+use std::collections::BTreeMap;
+
+pub type MemFiles = BTreeMap<String, Vec<u8>>;
+
+/// Copies bytes from the place `at` on into the front of `buf`, as many as there are and fit.
+pub fn copy_from(bytes: &[u8], at: u64, buf: &mut [u8]) -> usize
+    ensures bound { result ≤ length buf.new }
+    ensures reads { Reads (Some bytes.now) at (Some result) buf.new }
+{
+    if at >= bytes.len() as u64 {
+        return 0;
+    }
+    let rest = &bytes[at as usize..];
+    let count = rest.len().min(buf.len());
+    buf[..count].copy_from_slice(&rest[..count]);
+    count
+}
+
+/// Puts a file that holds just these bytes.
+pub fn put(
+    alloc: Global,
+    files: &mut MemFiles,
+    name: &str,
+    bytes: Vec<u8>,
+) -> Result<(), OutOfMemory>
+    ensures ok { OnOk result (file_in files.new name.now ≡ Some bytes.items) }
+    ensures err { OnErr result (file_in files.new name.now ≡ file_in files.old name.now) }
+    ensures others { (other : List ℕ) → other ≢ name.now →
+        file_in files.new other ≡ file_in files.old other }
+{
+    let key = String::from_str(alloc, name)?;
+    files.insert(key, bytes)?;
+    Ok(())
+}
+
+/// Adds a piece to a file that is there.
+fn extend(files: &mut MemFiles, name: &str, piece: &[u8]) -> Result<(), OutOfMemory>
+    ensures ok { OnOk result (file_in files.new name.now
+        ≡ Some (bytes_or_empty (file_in files.old name.now) ++ piece.now)) }
+    ensures err { OnErr result (file_in files.new name.now ≡ file_in files.old name.now) }
+    ensures others { (other : List ℕ) → other ≢ name.now →
+        file_in files.new other ≡ file_in files.old other }
+{
+    match files.get_mut(name) {
+        Some(bytes) => bytes.extend_from_slice(piece).map_err(|_| OutOfMemory),
+        None => Err(OutOfMemory),
+    }
+}
+
+/// Adds a piece to a file. A name that is not there counts as an empty file.
+pub fn add(alloc: Global, files: &mut MemFiles, name: &str, piece: &[u8]) -> Result<(), OutOfMemory>
+    ensures ok { OnOk result (file_in files.new name.now
+        ≡ Some (bytes_or_empty (file_in files.old name.now) ++ piece.now)) }
+    ensures err { OnErr result (file_in files.new name.now ≡ file_in files.old name.now) }
+    ensures others { (other : List ℕ) → other ≢ name.now →
+        file_in files.new other ≡ file_in files.old other }
+{
+    if files.contains_key(name) {
+        return extend(files, name, piece);
+    }
+    let copy = Vec::from_slice(alloc, piece).map_err(|_| OutOfMemory)?;
+    put(alloc, files, name, copy)
+}
