@@ -32,6 +32,15 @@ pub record IsUncounted (shelf : ShelfState) : Type 0 where
   pub taken : shelf.taken ≡ 0
   pub absent : shelf.absent ≡ 0
 
+-- all but the files stays
+pub record SameButFiles (old new : ShelfState) : Type 0 where
+  pub faults : new.faults ≡ old.faults
+  pub last_failed : new.last_failed ≡ old.last_failed
+  pub taken : new.taken ≡ old.taken
+  pub absent : new.absent ≡ old.absent
+  pub tells : new.tells ≡ old.tells
+  pub honest : new.honest ≡ old.honest
+
 -- what every call keeps: the count of faults never falls, and the shelf stays of its kind
 pub record GoesOn (old new : ShelfState) : Type 0 where
   pub later : old.faults ≤ new.faults

@@ -1,6 +1,6 @@
 //! The calls of one kind on an object in memory, counted from 1, and those of them that are to fail.
-ghost use Rattle.std.specs.Prelude.{◌≡◌, ◌++◌, ◌∷◌, [], ◌↔◌, IsTrue, OnOk, OnErr};
-ghost use Rattle.io_base.specs.Calls.{Calls, FailsNext, CountsCall};
+ghost use Rattle.std.specs.Prelude.{◌≡◌, ◌↔◌, IsTrue, OnOk, OnErr};
+ghost use Rattle.io_base.specs.Calls.{FailsNext, CountsCall, PlansFault, IsUncalled};
 
 use crate::OutOfMemory;
 use std::alloc::Global;
@@ -14,6 +14,8 @@ pub struct CallPlan {
 }
 
 impl Model for CallPlan {
+    ghost use Rattle.io_base.specs.Calls.{Calls};
+
     ghost Value = { Calls };
 
     ghost view = { λ plan. record { made = plan.made; to_fail = plan.to_fail.items } };
@@ -22,8 +24,7 @@ impl Model for CallPlan {
 impl CallPlan {
     /// No call was made, and none is to fail.
     pub fn new(alloc: Global) -> Self
-        ensures made { result.made ≡ 0 }
-        ensures to_fail { result.to_fail ≡ [] }
+        ensures { IsUncalled result }
     {
         CallPlan {
             made: 0,
@@ -42,9 +43,8 @@ impl CallPlan {
 
     /// Adds a call to those that are to fail.
     pub fn add(&mut self, number: u32) -> Result<(), OutOfMemory>
-        ensures made { self.new.made ≡ self.old.made }
-        ensures ok { OnOk result (self.new.to_fail ≡ self.old.to_fail ++ number ∷ []) }
-        ensures err { OnErr result (self.new.to_fail ≡ self.old.to_fail) }
+        ensures ok { OnOk result (PlansFault self.old self.new number) }
+        ensures err { OnErr result (self.new ≡ self.old) }
     {
         match self.to_fail.push(u64::from(number)) {
             Ok(()) => Ok(()),

@@ -1,6 +1,8 @@
 //! A shelf in memory, for tests and for trying what follows a fault.
-ghost use Rattle.std.specs.Prelude.{◌≡◌, ◌≢◌, [], ◌++◌, ◌∷◌, Some, None, List, ℕ, OnOk, OnErr, option_copied};
-ghost use Rattle.io_base.specs.Shelf.{IsTold, IsUncounted, KeepsOthers};
+ghost use Rattle.std.specs.Prelude.{◌≡◌, ◌≢◌, ◌≤◌, ◌↔◌, [], length, Some, None, List, ℕ, IsErr, IfOk, IfSome, OnOk, OnErr, option_copied};
+ghost use Rattle.io_base.specs.Calls.{FailsNext, PlansFault, IsUncalled};
+ghost use Rattle.io_base.specs.Causes.{CountsFault};
+ghost use Rattle.io_base.specs.Shelf.{IsTold, IsUncounted, SameButFiles, GoesOn, HasCause, CountsRead, CountsNoRead, Reads, KeepsOthers, Appends};
 
 use crate::call_plan::CallPlan;
 use crate::mem_files::{MemFiles, add, copy_from, put};
@@ -31,6 +33,7 @@ pub struct MemShelf {
 }
 
 impl MemShelf {
+    ghost use Rattle.io_base.specs.declared.mem_shelf.CallKind.{CallKind};
     ghost use Rattle.io_base.specs.MemShelf.{shelf_of, calls_of};
 
     /// No files, and no calls that are to fail.
@@ -38,6 +41,7 @@ impl MemShelf {
         ensures told { IsTold (shelf_of result) }
         ensures uncounted { IsUncounted (shelf_of result) }
         ensures no_files { (name : List ℕ) → (shelf_of result).file name ≡ None }
+        ensures uncalled { (kind : CallKind) → IsUncalled (calls_of result kind) }
     {
         MemShelf {
             alloc,
@@ -54,6 +58,8 @@ impl MemShelf {
         ensures ok { OnOk result ((shelf_of self.new).file name.now ≡ Some bytes.now) }
         ensures err { OnErr result ((shelf_of self.new).file name.now ≡ (shelf_of self.old).file name.now) }
         ensures others { KeepsOthers (shelf_of self.old) (shelf_of self.new) name.now }
+        ensures counts { SameButFiles (shelf_of self.old) (shelf_of self.new) }
+        ensures calls { (kind : CallKind) → calls_of self.new kind ≡ calls_of self.old kind }
     {
         let copy = Vec::from_slice(self.alloc, bytes).map_err(|_| OutOfMemory)?;
         put(self.alloc, &mut self.files, name, copy)
@@ -72,6 +78,10 @@ impl MemShelf {
     /// Adds a call of this kind to those that are to fail. The first call of each kind has number 1.
     pub fn fail(&mut self, kind: CallKind, number: u32) -> Result<(), OutOfMemory>
         ensures shelf { shelf_of self.new ≡ shelf_of self.old }
+        ensures ok { OnOk result (PlansFault (calls_of self.old kind) (calls_of self.new kind) number) }
+        ensures err { OnErr result (calls_of self.new kind ≡ calls_of self.old kind) }
+        ensures others { (other : CallKind) → other ≢ kind →
+            calls_of self.new other ≡ calls_of self.old other }
     {
         match kind {
             CallKind::Read => self.reads.add(number),
@@ -82,11 +92,23 @@ impl MemShelf {
 }
 
 impl Shelf for MemShelf {
-    ghost use Rattle.io_base.specs.MemShelf.{shelf_of};
+    ghost use Rattle.io_base.specs.MemShelf.{shelf_of, calls_of, CountsCallOf, AppendsHalf};
 
     ghost state = { shelf_of };
 
-    fn read_at(&mut self, name: &str, at: u64, buf: &mut [u8]) -> Result<Option<usize>, Failed> {
+    fn read_at(&mut self, name: &str, at: u64, buf: &mut [u8]) -> Result<Option<usize>, Failed>
+        requires { length name.now ≤ 220 }
+        ensures bound { IfOk result (λ count. IfSome count (λ n. n ≤ length buf.new)) }
+        ensures told { IfOk result
+            (λ count. Reads ((shelf_of self.old).file name.now) at count buf.new) }
+        ensures same { (shelf_of self.new).file ≡ (shelf_of self.old).file }
+        ensures counts { CountsRead (shelf_of self.old) (shelf_of self.new) result }
+        ensures goes_on { GoesOn (shelf_of self.old) (shelf_of self.new) }
+        ensures cause { HasCause (shelf_of self.old) (shelf_of self.new) name.now result }
+        ensures faults { CountsFault (shelf_of self.old).faults (shelf_of self.new).faults result }
+        ensures fails { IsErr result ↔ FailsNext (calls_of self.old CallKind.Read) }
+        ensures calls { CountsCallOf self.old self.new CallKind.Read }
+    {
         if self.reads.count_call() {
             self.counts.count_fault(name);
             return Err(Failed);
@@ -104,7 +126,19 @@ impl Shelf for MemShelf {
         }
     }
 
-    fn create(&mut self, name: &str) -> Result<(), Failed> {
+    fn create(&mut self, name: &str) -> Result<(), Failed>
+        requires { length name.now ≤ 220 }
+        ensures ok { OnOk result ((shelf_of self.new).file name.now ≡ Some []) }
+        ensures err { OnErr result
+            ((shelf_of self.new).file name.now ≡ (shelf_of self.old).file name.now) }
+        ensures others { KeepsOthers (shelf_of self.old) (shelf_of self.new) name.now }
+        ensures counts { CountsNoRead (shelf_of self.old) (shelf_of self.new) }
+        ensures goes_on { GoesOn (shelf_of self.old) (shelf_of self.new) }
+        ensures cause { HasCause (shelf_of self.old) (shelf_of self.new) name.now result }
+        ensures faults { CountsFault (shelf_of self.old).faults (shelf_of self.new).faults result }
+        ensures fails { FailsNext (calls_of self.old CallKind.Create) → IsErr result }
+        ensures calls { CountsCallOf self.old self.new CallKind.Create }
+    {
         if self.creates.count_call()
             || put(self.alloc, &mut self.files, name, Vec::new(self.alloc)).is_err()
         {
@@ -114,7 +148,19 @@ impl Shelf for MemShelf {
         Ok(())
     }
 
-    fn append(&mut self, name: &str, piece: &[u8]) -> Result<(), Failed> {
+    fn append(&mut self, name: &str, piece: &[u8]) -> Result<(), Failed>
+        requires { length name.now ≤ 220 }
+        ensures ok { OnOk result
+            (Appends (shelf_of self.old) (shelf_of self.new) name.now piece.now) }
+        ensures err { OnErr result (AppendsHalf self.old self.new name.now piece.now) }
+        ensures others { KeepsOthers (shelf_of self.old) (shelf_of self.new) name.now }
+        ensures counts { CountsNoRead (shelf_of self.old) (shelf_of self.new) }
+        ensures goes_on { GoesOn (shelf_of self.old) (shelf_of self.new) }
+        ensures cause { HasCause (shelf_of self.old) (shelf_of self.new) name.now result }
+        ensures faults { CountsFault (shelf_of self.old).faults (shelf_of self.new).faults result }
+        ensures fails { FailsNext (calls_of self.old CallKind.Append) → IsErr result }
+        ensures calls { CountsCallOf self.old self.new CallKind.Append }
+    {
         if self.appends.count_call() {
             let _ = add(self.alloc, &mut self.files, name, &piece[..piece.len() / 2]);
             self.counts.count_fault(name);

@@ -1,5 +1,8 @@
 //! A sink in memory, for tests and for trying what follows a fault.
-ghost use Rattle.std.specs.Prelude.{◌≡◌, [], ◌++◌, ◌∷◌, IsTrue, OnOk, OnErr};
+ghost use Rattle.std.specs.Prelude.{◌≡◌, [], length, IsTrue, IsErr, IfOk, OnOk, OnErr};
+ghost use Rattle.io_base.specs.Calls.{FailsNext, CountsCall, PlansFault, IsUncalled};
+ghost use Rattle.io_base.specs.Causes.{CountsFault};
+ghost use Rattle.io_base.specs.Sink.{Flows, AddsFront};
 
 use crate::call_plan::CallPlan;
 use crate::{Failed, OutOfMemory, Sink};
@@ -34,8 +37,7 @@ impl MemSink {
         ensures told { IsTrue result.sink.tells }
         ensures bytes { result.sink.bytes ≡ [] }
         ensures faults { result.sink.faults ≡ 0 }
-        ensures made { result.writes.made ≡ 0 }
-        ensures to_fail { result.writes.to_fail ≡ [] }
+        ensures writes { IsUncalled result.writes }
     {
         MemSink {
             bytes: Vec::new(alloc),
@@ -54,10 +56,8 @@ impl MemSink {
     /// Adds a write to those that are to fail. The first write has number 1.
     pub fn fail(&mut self, number: u32) -> Result<(), OutOfMemory>
         ensures sink { self.new.sink ≡ self.old.sink }
-        ensures made { self.new.writes.made ≡ self.old.writes.made }
-        ensures ok { OnOk result (self.new.writes.to_fail
-            ≡ self.old.writes.to_fail ++ number ∷ []) }
-        ensures err { OnErr result (self.new.writes.to_fail ≡ self.old.writes.to_fail) }
+        ensures ok { OnOk result (PlansFault self.old.writes self.new.writes number) }
+        ensures err { OnErr result (self.new.writes ≡ self.old.writes) }
     {
         self.writes.add(number)
     }
@@ -66,7 +66,15 @@ impl MemSink {
 impl Sink for MemSink {
     ghost state = { λ s. s.sink };
 
-    fn write(&mut self, piece: &[u8]) -> Result<usize, Failed> {
+    /// Writes the piece whole, or nothing.
+    fn write(&mut self, piece: &[u8]) -> Result<usize, Failed>
+        ensures ok { IfOk result (λ n. n ≡ length piece.now) }
+        ensures told { AddsFront self.old.sink self.new.sink piece.now result }
+        ensures goes_on { Flows self.old.sink self.new.sink }
+        ensures faults { CountsFault self.old.sink.faults self.new.sink.faults result }
+        ensures fails { FailsNext self.old.writes → IsErr result }
+        ensures calls { CountsCall self.old.writes self.new.writes }
+    {
         if self.writes.count_call() || self.bytes.extend_from_slice(piece).is_err() {
             self.faults = self.faults.saturating_add(1);
             return Err(Failed);
