@@ -12,6 +12,8 @@ use std::marker::Model;
 use std::rt::Files;
 
 /// The files of the system. It does not tell their content, and no clause relies on its honesty.
+///
+/// Each call opens its file anew, so between calls no file is open.
 #[derive(Drop)]
 pub struct FileShelf<R> {
     rt: R,

@@ -7,6 +7,7 @@ use crate::OutOfMemory;
 use std::alloc::Global;
 use std::collections::BTreeMap;
 
+/// The bytes of each file by its name.
 pub type MemFiles = BTreeMap<String, Vec<u8>>;
 
 /// Copies bytes from the place `at` on into the front of `buf`, as many as there are and fit.
@@ -24,6 +25,7 @@ pub fn copy_from(bytes: &[u8], at: u64, buf: &mut [u8]) -> usize
 }
 
 /// Puts a file that holds just these bytes.
+#[tactic(auto, using(std::proofs::lemmas::Map::Text::text_keys))]
 pub fn put(
     alloc: Global,
     files: &mut MemFiles,
@@ -41,6 +43,7 @@ pub fn put(
 }
 
 /// Adds a piece to a file that is there.
+#[tactic(auto, using(std::proofs::lemmas::Map::Text::text_keys))]
 fn extend(files: &mut MemFiles, name: &str, piece: &[u8]) -> Result<(), OutOfMemory>
     ensures ok { OnOk result (file_in files.new name.now
         ≡ Some (bytes_or_empty (file_in files.old name.now) ++ piece.now)) }
@@ -49,7 +52,10 @@ fn extend(files: &mut MemFiles, name: &str, piece: &[u8]) -> Result<(), OutOfMem
         file_in files.new other ≡ file_in files.old other }
 {
     match files.get_mut(name) {
-        Some(bytes) => bytes.extend_from_slice(piece).map_err(|_| OutOfMemory),
+        Some(bytes) => {
+            bytes.extend_from_slice(piece)?;
+            Ok(())
+        }
         None => Err(OutOfMemory),
     }
 }
@@ -65,6 +71,6 @@ pub fn add(alloc: Global, files: &mut MemFiles, name: &str, piece: &[u8]) -> Res
     if files.contains_key(name) {
         return extend(files, name, piece);
     }
-    let copy = Vec::from_slice(alloc, piece).map_err(|_| OutOfMemory)?;
+    let copy = Vec::from_slice(alloc, piece)?;
     put(alloc, files, name, copy)
 }

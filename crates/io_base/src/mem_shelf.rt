@@ -1,5 +1,5 @@
 //! A shelf in memory, for tests and for trying what follows a fault.
-ghost use Rattle.std.specs.Prelude.{◌≡◌, ◌≢◌, ◌≤◌, ◌↔◌, [], length, Some, None, List, ℕ, IsErr, IfOk, IfSome, OnOk, OnErr, option_copied};
+ghost use Rattle.std.specs.Prelude.{◌≡◌, ◌≢◌, ◌≤◌, ◌↔◌, ◌⊎◌, [], length, Some, None, List, ℕ, IsErr, IfOk, IfSome, OnOk, OnErr, option_copied};
 ghost use Rattle.io_base.specs.Calls.{FailsNext, PlansFault, IsUncalled};
 ghost use Rattle.io_base.specs.Causes.{CountsFault};
 ghost use Rattle.io_base.specs.Shelf.{IsTold, IsUncounted, SameButFiles, GoesOn, HasCause, CountsRead, CountsNoRead, Reads, KeepsOthers, Appends};
@@ -61,7 +61,7 @@ impl MemShelf {
         ensures counts { SameButFiles (shelf_of self.old) (shelf_of self.new) }
         ensures calls { (kind : CallKind) → calls_of self.new kind ≡ calls_of self.old kind }
     {
-        let copy = Vec::from_slice(self.alloc, bytes).map_err(|_| OutOfMemory)?;
+        let copy = Vec::from_slice(self.alloc, bytes)?;
         put(self.alloc, &mut self.files, name, copy)
     }
 
@@ -96,6 +96,7 @@ impl Shelf for MemShelf {
 
     ghost state = { shelf_of };
 
+    /// Fails just where this read is to fail.
     fn read_at(&mut self, name: &str, at: u64, buf: &mut [u8]) -> Result<Option<usize>, Failed>
         requires { length name.now ≤ 220 }
         ensures bound { IfOk result (λ count. IfSome count (λ n. n ≤ length buf.new)) }
@@ -126,6 +127,7 @@ impl Shelf for MemShelf {
         }
     }
 
+    /// Fails where this create is to fail, and where memory is refused. The file is then as before.
     fn create(&mut self, name: &str) -> Result<(), Failed>
         requires { length name.now ≤ 220 }
         ensures ok { OnOk result ((shelf_of self.new).file name.now ≡ Some []) }
@@ -148,6 +150,8 @@ impl Shelf for MemShelf {
         Ok(())
     }
 
+    /// Fails where this append is to fail, which keeps the first half of the piece, and where memory is
+    /// refused, which keeps nothing of it.
     fn append(&mut self, name: &str, piece: &[u8]) -> Result<(), Failed>
         requires { length name.now ≤ 220 }
         ensures ok { OnOk result
@@ -159,6 +163,8 @@ impl Shelf for MemShelf {
         ensures cause { HasCause (shelf_of self.old) (shelf_of self.new) name.now result }
         ensures faults { CountsFault (shelf_of self.old).faults (shelf_of self.new).faults result }
         ensures fails { FailsNext (calls_of self.old CallKind.Append) → IsErr result }
+        ensures refused { OnErr result (FailsNext (calls_of self.old CallKind.Append)
+            ⊎ ((shelf_of self.new).file name.now ≡ (shelf_of self.old).file name.now)) }
         ensures calls { CountsCallOf self.old self.new CallKind.Append }
     {
         if self.appends.count_call() {

@@ -66,7 +66,7 @@ impl MemSink {
 impl Sink for MemSink {
     ghost state = { λ s. s.sink };
 
-    /// Writes the piece whole, or nothing.
+    /// Writes the piece whole. Fails where this write is to fail, and where memory is refused.
     fn write(&mut self, piece: &[u8]) -> Result<usize, Failed>
         ensures ok { IfOk result (λ n. n ≡ length piece.now) }
         ensures told { AddsFront self.old.sink self.new.sink piece.now result }

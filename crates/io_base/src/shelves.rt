@@ -6,8 +6,8 @@ use crate::Failed;
 
 /// Named files that are read at any place, made empty, and added to at their end.
 ///
-/// Names have at most 220 bytes. A shelf may keep its content to itself (files of the system do), and
-/// may be dishonest; what a clause says of a file's bytes then does not hold.
+/// A shelf that keeps its content to itself, as the files of the system do, promises nothing of what
+/// reads give. One that is not honest promises nothing of a file after `create` and `append`.
 pub trait Shelf {
     /// What the shelf means.
     ghost state: { Self → ShelfState };
