@@ -61,7 +61,8 @@ fn lands_on_all(from: Cell, jump: Jump, targets: &[Option<Cell>]) -> bool
 pub fn reach(from: Cell, kind: Kind, targets: &[Option<Cell>]) -> Option<Jump>
     requires { length targets.now ≡ outcomes_of kind }
     ensures serves { IfSome result (Serves from kind targets.now) }
-    ensures least { IfSome result (λ jump. (other : JumpWord) → Serves from kind targets.now other → ac_of jump ≤ ac_of other) }
+    ensures least { IfSome result (λ jump. (other : JumpWord)
+        → Serves from kind targets.now other → ac_of jump ≤ ac_of other) }
     ensures none { IfNone result ((other : JumpWord) → Serves from kind targets.now other → ⊥) }
 {
     for ac in 0..128u8 {
