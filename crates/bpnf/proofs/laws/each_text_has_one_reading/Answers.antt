@@ -1,0 +1,9 @@
+use Rattle.bpnf.proofs.OnlyLaws.{only_reading}
+use Rattle.bpnf.proofs.SomeLaws.{reading_is_read}
+use Rattle.bpnf.proofs.laws.each_text_has_one_reading.Goals as goal
+
+pub returns-clause-some : goal.returns-clause-some
+returns-clause-some c = reading_is_read
+
+pub returns-clause-only : goal.returns-clause-only
+returns-clause-only c = only_reading
