@@ -1,6 +1,6 @@
 -- The letters of a word: how many, which bytes, and how they grow by one at either end.
 
-use Rattle.std.proofs.Common.{◌≡◌, ℕ, zero, suc, ◌+◌, ◌-◌, ◌*◌, ◌/◌, ◌%◌, ◌^◌, ◌<◌, ◌≤◌, List, [], ◌∷◌, ◌++◌, length, refl, sym, ap, subst, ◌∙◌, inl, inr, arith}
+use Rattle.std.proofs.Common.{◌≡◌, ℕ, zero, suc, ◌+◌, ◌-◌, ◌*◌, ◌/◌, ◌%◌, ◌<◌, [], ◌∷◌, ◌++◌, length, refl, ap, ◌∙◌, inl, inr, arith}
 use Rattle.std.specs.List.{All}
 use Rattle.std.specs.Int.{bit_at}
 use Rattle.std.proofs.lemmas.List.Elements.{All-nil, All-cons}
@@ -16,15 +16,18 @@ first_letter (suc n) word lt =
     ap (λ (k : ℕ). letter (bit_at word k) ∷ letters_of k word) e
 
 -- the last letter is that of the lowest bit
-pub letters_of-more : (n word bit : ℕ) → bit < 2 → letters_of (suc n) (word * 2 + bit) ≡ letters_of n word ++ letter bit ∷ []
+pub letters_of-more : (n word bit : ℕ) → bit < 2 →
+    letters_of (suc n) (word * 2 + bit) ≡ letters_of n word ++ letter bit ∷ []
 unfolding letters_of
 letters_of-more zero word bit lt =
     let e : bit_at (word * 2 + bit) 0 ≡ bit = bit_at_lowest (word * 2 + bit) ∙ omega arith in
     ap (λ (b : ℕ). letter b ∷ []) e
 letters_of-more (suc n) word bit lt =
     let half : (word * 2 + bit) / 2 ≡ word = omega arith in
-    let e : bit_at (word * 2 + bit) (suc n) ≡ bit_at word n = bit_at-suc (word * 2 + bit) n ∙ ap (λ (w : ℕ). bit_at w n) half in
-    ap (λ (b : ℕ). letter b ∷ letters_of (suc n) (word * 2 + bit)) e ∙ ap (λ bs. letter (bit_at word n) ∷ bs) (letters_of-more n word bit lt)
+    let e : bit_at (word * 2 + bit) (suc n) ≡ bit_at word n = bit_at-suc (word * 2 + bit) n ∙
+    ap (λ (w : ℕ). bit_at w n) half in
+    ap (λ (b : ℕ). letter b ∷ letters_of (suc n) (word * 2 + bit)) e ∙
+    ap (λ bs. letter (bit_at word n) ∷ bs) (letters_of-more n word bit lt)
 
 -- the same, for a word that is taken apart
 pub letters_of-last : (n word : ℕ) → letters_of (suc n) word ≡ letters_of n (word / 2) ++ letter (word % 2) ∷ []

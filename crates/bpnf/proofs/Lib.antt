@@ -1,6 +1,6 @@
 pub mod GrammarLaws
 pub mod LetterLaws
-pub mod OnlyLaws
+pub mod NothingElseIsAllowed
 pub mod PrintedLaws
 pub mod ReadLaws
-pub mod SomeLaws
+pub mod ReadingIsAllowed

@@ -1,4 +1,4 @@
--- A PROM image: the words that a PROM holds.
+-- A PROM image: what a PROM holds.
 
 use Rattle.std.specs.Prelude.{ℕ, ◌≡◌, ◌<◌, ◌^◌, ◌⊎◌, List, length}
 use Rattle.std.specs.List.{All}
@@ -8,11 +8,11 @@ pub record Image : Type 0 where
   pub bits : ℕ
   pub words : List ℕ
 
--- a width that PROMs have (this project's own choice: the two common organisations)
+-- a word's bits: 4 or 8, the two widths that such PROMs have (own choice)
 abbrev pub IsWidth : ℕ → Type 0
 IsWidth bits = (bits ≡ 4) ⊎ (bits ≡ 8)
 
--- 512 words of 4 or 8 bits, each below the power of two of its bits
+-- 512 words, one for each cell of the 3001's matrix, each below the power of two of its bits
 pub record IsImage (image : Image) : Type 0 where
   pub width : IsWidth image.bits
   pub many : length image.words ≡ 512

@@ -1,4 +1,5 @@
 -- The reading of a text, byte by byte: a function that gives the one answer that the grammar allows.
+-- The law `each_text_has_one_reading` ties it to the grammar, which says what the answer is.
 
 use Rattle.std.specs.Prelude.{ℕ, ◌+◌, ◌*◌, ◌==◌, ◌≡◌, nat_lt, if◌then◌else◌, List, [], ◌∷◌, ◌++◌, length, Option, Some, None, Result, Ok, Err}
 use Rattle.bpnf.specs.declared.fault.BpnfFault.{BpnfFault}
@@ -18,13 +19,17 @@ first = record { words = []; begun = None }
 abbrev pub bit_of : ℕ → Option ℕ
 bit_of byte = if byte == 80 then Some 1 else if byte == 78 then Some 0 else None
 
+-- a `B` outside a frame, where there is room for one more word or not
+abbrev pub at_begin : ℕ → ℕ → List ℕ → Result State BpnfFault
+at_begin count position words =
+    if nat_lt (length words) count then
+    Ok (record { words = words; begun = Some (record { start = position; letters = 0; word = 0 }) })
+    else Err (TooMany position)
+
 -- a byte outside a frame
 abbrev pub outside : ℕ → ℕ → List ℕ → ℕ → Result State BpnfFault
 outside count position words byte =
-    if byte == 66 then
-    (if nat_lt (length words) count then Ok (record { words = words; begun = Some (record { start = position; letters = 0; word = 0 }) })
-    else Err (TooMany position))
-    else Ok (record { words = words; begun = None })
+    if byte == 66 then at_begin count position words else Ok (record { words = words; begun = None })
 
 -- a byte that should be a letter
 abbrev pub with_letter : ℕ → OpenFrame → Option ℕ → Result OpenFrame BpnfFault

@@ -13,10 +13,12 @@ mod laws;
 mod printer;
 mod prom;
 mod reader;
+#[cfg(test)]
+mod tests;
 
 pub use bytes::Bytes;
 pub use fault::BpnfFault;
 pub use laws::{each_text_has_one_reading, printed_text_is_read};
 pub use printer::print;
-pub use prom::{Prom, WORDS};
+pub use prom::Prom;
 pub use reader::read;

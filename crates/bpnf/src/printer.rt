@@ -2,7 +2,9 @@
 
 ghost use Rattle.std.specs.Prelude.{◌≡◌, ◌<◌, ◌≤◌, ◌∷◌, [], ◌++◌, IfOk, OnOk, Ok};
 ghost use Rattle.std.specs.Int.{bit_at};
-ghost use Rattle.bpnf.specs.Frames.{letter, letters_of, frame, frames_of, image_text, Reads};
+ghost use Rattle.bpnf.specs.Canonical.{frames_of, image_text};
+ghost use Rattle.bpnf.specs.FirstFault.{Reads};
+ghost use Rattle.bpnf.specs.Frames.{letter, letters_of, frame};
 
 use crate::Prom;
 use io_base::OutOfMemory;
@@ -41,7 +43,7 @@ fn print_frame(text: &mut Vec<u8>, bits: u8, word: u8) -> Result<(), AllocError>
 }
 
 /// Appends the frames of the words.
-#[tactic(auto, unfolding(crate::specs::Frames::frames_of))]
+#[tactic(auto, unfolding(crate::specs::Canonical::frames_of))]
 fn print_frames(text: &mut Vec<u8>, bits: u8, words: &[u8]) -> Result<(), AllocError>
     requires { bits ≤ 8 }
     ensures { OnOk result (text.new.items ≡ text.old.items ++ frames_of bits words.now) }

@@ -5,8 +5,8 @@ ghost use Rattle.std.specs.Prelude.{◌≡◌};
 use crate::Bytes;
 use std::marker::Model;
 
-/// How many words an image has: an address for each microinstruction of the control store.
-pub const WORDS: u16 = 512;
+/// How many words an image has: one for each cell of the microprogram's matrix.
+pub(crate) const WORDS: u16 = 512;
 
 /// What a PROM holds: its words in rising address, each below the power of two of its bits.
 #[derive(Drop)]

@@ -1,12 +1,13 @@
 //! Reads a text, byte by byte.
 
 ghost use Rattle.std.specs.Prelude.{ℕ, ◌≡◌, ◌≢◌, ◌<◌, ◌≤◌, length, Some, None, Ok, Err, IfOk, IfErr};
-ghost use Rattle.bpnf.specs.Frames.{Reads};
+ghost use Rattle.bpnf.specs.FirstFault.{Reads};
 ghost use Rattle.bpnf.specs.Image.{IsImage, IsWidth};
 ghost use Rattle.bpnf.specs.Reading.{first, outside, inside, at_byte, at_end, reading, Gives};
 
 use crate::frame::OpenFrame;
-use crate::{BpnfFault, Bytes, Prom, WORDS};
+use crate::prom::WORDS;
+use crate::{BpnfFault, Bytes, Prom};
 use std::alloc::Global;
 use std::marker::Model;
 
@@ -125,12 +126,13 @@ fn read_words(alloc: Global, bytes: &[u8], bits: u8, count: u16) -> Result<Vec<u
     reader.finish(count)
 }
 
-/// The image that a text shows, or its first fault. The words have 4 or 8 bits.
+/// The image that a text shows, of 512 words of 4 or 8 bits, or the text's first fault from the left.
 pub fn read(alloc: Global, bytes: &[u8], bits: u8) -> Result<Prom, BpnfFault>
     requires { IsWidth bits }
     ensures words { IfOk result (λ prom. Reads bits 512 bytes.now (Ok prom.words)) }
     ensures bits { IfOk result (λ prom. prom.bits ≡ bits) }
-    ensures fault { IfErr result (λ fault. fault ≢ BpnfFault.OutOfMemory → Reads bits 512 bytes.now (Err fault)) }
+    ensures fault { IfErr result (λ fault.
+        fault ≢ BpnfFault.OutOfMemory → Reads bits 512 bytes.now (Err fault)) }
 {
     match read_words(alloc, bytes, bits, WORDS) {
         Ok(words) => Ok(Prom::new(bits, Bytes::of(words))),

@@ -1,5 +1,5 @@
-use Rattle.bpnf.proofs.OnlyLaws.{only_reading}
-use Rattle.bpnf.proofs.SomeLaws.{reading_is_read}
+use Rattle.bpnf.proofs.NothingElseIsAllowed.{only_reading}
+use Rattle.bpnf.proofs.ReadingIsAllowed.{reading_is_read}
 use Rattle.bpnf.proofs.laws.each_text_has_one_reading.Goals as goal
 
 pub returns-clause-some : goal.returns-clause-some

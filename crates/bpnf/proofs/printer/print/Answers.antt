@@ -1,6 +1,7 @@
 use Rattle.std.proofs.Common.{◌≡◌, List, ℕ, Ok, sym, subst, arith}
 use Rattle.std.proofs.lemmas.Grind.{common_steps}
-use Rattle.bpnf.specs.Frames.{image_text, Reads}
+use Rattle.bpnf.specs.Canonical.{image_text}
+use Rattle.bpnf.specs.FirstFault.{Reads}
 use Rattle.bpnf.proofs.PrintedLaws.{printed_is_read}
 use Rattle.bpnf.proofs.printer.print.Goals as goal
 

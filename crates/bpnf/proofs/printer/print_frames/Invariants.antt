@@ -1,5 +1,5 @@
 use Rattle.std.proofs.Common.{◌≡◌, ◌++◌, drop}
-use Rattle.bpnf.specs.Frames.{frames_of}
+use Rattle.bpnf.specs.Canonical.{frames_of}
 use Rattle.bpnf.proofs.printer.print_frames.Given as goal
 
 -- what is printed, followed by the frames that are left, is the whole

@@ -1,6 +1,4 @@
-use Rattle.std.proofs.Common.{List, ℕ, Ok, ◌≡◌, sym, subst}
-use Rattle.bpnf.specs.Frames.{Reads}
-use Rattle.bpnf.specs.Image.{IsImage}
+use Rattle.std.proofs.Common.{Ok}
 use Rattle.bpnf.proofs.ReadLaws.{answer_is_read, words_make_image, fault_is_first}
 use Rattle.bpnf.proofs.reader.read.Goals as goal
 

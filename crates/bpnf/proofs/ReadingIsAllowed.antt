@@ -1,15 +1,16 @@
 -- The reading of a text is one that the grammar allows.
 
-use Rattle.std.proofs.Common.{◌≡◌, ◌≢◌, ℕ, zero, suc, ◌+◌, ◌*◌, ◌^◌, ◌<◌, ◌≤◌, ◌==◌, nat_lt, List, [], ◌∷◌, ◌++◌, length, Option, Some, None, Result, Ok, Err, true, false, if◌then◌else◌, refl, sym, ap, subst, ◌∙◌, inl, inr, append_assoc, length-append, arith}
+use Rattle.std.proofs.Common.{◌≡◌, ◌≢◌, ℕ, suc, ◌+◌, ◌*◌, ◌^◌, ◌<◌, ◌≤◌, ◌==◌, nat_lt, List, [], ◌∷◌, ◌++◌, length, Option, Some, None, Result, Ok, Err, refl, sym, ap, subst, ◌∙◌, inl, inr, append_assoc, length-append, arith}
 use Rattle.std.proofs.lemmas.List.{append-nil}
 use Rattle.std.proofs.lemmas.Bool.{cases_Bool, ltb-true, ltb-false, eqb-true, eqb-false}
 use Rattle.std.proofs.lemmas.Grind.{pow_more}
 use Rattle.std.proofs.lemmas.List.Elements.{All-nil}
 use Rattle.bpnf.specs.declared.fault.BpnfFault.{BpnfFault}
-use Rattle.bpnf.specs.declared.fault.BpnfFault.TheVariants.{BadLetter, TooMany}
+use Rattle.bpnf.specs.declared.fault.BpnfFault.TheVariants.{BadLetter}
 use Rattle.bpnf.specs.declared.frame.OpenFrame.{OpenFrame}
-use Rattle.bpnf.specs.Frames.{letter, IsLetter, letters_of, frame, Shows, Reads}
-use Rattle.bpnf.specs.Reading.{State, first, bit_of, outside, with_letter, still, inside, at_byte, at_end, and_then, run, reading}
+use Rattle.bpnf.specs.FirstFault.{Reads}
+use Rattle.bpnf.specs.Frames.{letter, IsLetter, letters_of, frame, Shows}
+use Rattle.bpnf.specs.Reading.{State, first, bit_of, at_begin, outside, with_letter, still, inside, at_byte, at_end, and_then, run, reading}
 use Rattle.bpnf.proofs.LetterLaws.{letters_of-more, length-letters_of, letters_of_are}
 use Rattle.bpnf.proofs.GrammarLaws.{shows_comment, shows_frame}
 
@@ -31,10 +32,12 @@ StandsAfter bits count front words (Some frame) = IsBegun bits count front words
 -- what the next byte brings: a state that stands after it, or the first fault whatever follows
 abbrev StandsAfterByte : ℕ → ℕ → List ℕ → ℕ → Result State BpnfFault → Type 0
 StandsAfterByte bits count front byte (Ok state) = StandsAfter bits count (front ++ byte ∷ []) state.words state.begun
-StandsAfterByte bits count front byte (Err fault) = (rest : List ℕ) → Reads bits count (front ++ byte ∷ rest) (Err fault)
+StandsAfterByte bits count front byte (Err fault) = (rest : List ℕ) →
+    Reads bits count (front ++ byte ∷ rest) (Err fault)
 
-begins_frame : (bits count position : ℕ) (front words : List ℕ) (byte : ℕ) → Shows bits words front → length words ≤ count → position ≡ length front → byte ≡ 66 →
-    StandsAfterByte bits count front byte (if nat_lt (length words) count then Ok (record { words = words; begun = Some (record { start = position; letters = 0; word = 0 }) }) else Err (TooMany position))
+begins_frame : (bits count position : ℕ) (front words : List ℕ) (byte : ℕ) → Shows bits words front →
+    length words ≤ count → position ≡ length front → byte ≡ 66 →
+    StandsAfterByte bits count front byte (at_begin count position words)
 unfolding letters_of
 begins_frame bits count position front words byte shown few at is = elim (cases_Bool (nat_lt (length words) count)) [
   | inl lt ↦ rw lt (record {
@@ -58,7 +61,8 @@ begins_frame bits count position front words byte shown few at is = elim (cases_
     all_are : count ≤ length words → length words ≡ count
     all_are ge = omega arith
 
-outside_stands : (bits count position : ℕ) (front words : List ℕ) (byte : ℕ) → Shows bits words front → length words ≤ count → position ≡ length front →
+outside_stands : (bits count position : ℕ) (front words : List ℕ) (byte : ℕ) → Shows bits words front →
+    length words ≤ count → position ≡ length front →
     StandsAfterByte bits count front byte (outside count position words byte)
 outside_stands bits count position front words byte shown few at = elim (cases_Bool (byte == 66)) [
   | inl is ↦ rw is (begins_frame bits count position front words byte shown few at (eqb-true byte 66 is))
@@ -66,11 +70,15 @@ outside_stands bits count position front words byte shown few at = elim (cases_B
 ]
 
 -- a byte that should be a letter, or should be `F`, and is not
-bad_letter : (bits count position : ℕ) (front words : List ℕ) (frame : OpenFrame) (byte : ℕ) → IsBegun bits count front words frame → position ≡ length front →
-    (frame.letters < bits → IsLetter byte → ⊥) → (frame.letters ≡ bits → byte ≢ 70) → (rest : List ℕ) → Reads bits count (front ++ byte ∷ rest) (Err (BadLetter position))
+bad_letter : (bits count position : ℕ) (front words : List ℕ) (frame : OpenFrame) (byte : ℕ) →
+    IsBegun bits count front words frame → position ≡ length front →
+    (frame.letters < bits → IsLetter byte → ⊥) → (frame.letters ≡ bits → byte ≢ 70) → (rest : List ℕ) →
+    Reads bits count (front ++ byte ∷ rest) (Err (BadLetter position))
 bad_letter bits count position front words frame byte begun at no_letter no_end rest =
-    let many : length (letters_of frame.letters frame.word) ≡ frame.letters = length-letters_of frame.letters frame.word in
-    let whole : length front ≡ length begun.before + suc (length (letters_of frame.letters frame.word)) = ap length begun.front_is ∙ length-append begun.before (66 ∷ letters_of frame.letters frame.word) in
+    let many : length (letters_of frame.letters frame.word) ≡ frame.letters =
+    length-letters_of frame.letters frame.word in
+    let whole : length front ≡ length begun.before + suc (length (letters_of frame.letters frame.word)) =
+    ap length begun.front_is ∙ length-append begun.before (66 ∷ letters_of frame.letters frame.word) in
     record {
       front = begun.before;
       letters = letters_of frame.letters frame.word;
@@ -82,7 +90,8 @@ bad_letter bits count position front words frame byte begun at no_letter no_end 
         before = record { words = words; shown = begun.shown; counted = refl };
         letters = letters_of_are frame.letters frame.word;
         short = omega (arith, many, begun.short);
-        text_is = ap (λ t. t ++ byte ∷ rest) begun.front_is ∙ append_assoc begun.before (66 ∷ letters_of frame.letters frame.word) (byte ∷ rest);
+        text_is = ap (λ t. t ++ byte ∷ rest) begun.front_is ∙
+            append_assoc begun.before (66 ∷ letters_of frame.letters frame.word) (byte ∷ rest);
       };
       no_letter = λ lt. no_letter (omega (arith, many, lt));
       no_end = λ e. no_end (omega (arith, many, e));
@@ -90,11 +99,18 @@ bad_letter bits count position front words frame byte begun at no_letter no_end 
     }
 
 -- one letter more
-with_bit : (bits count : ℕ) (front words : List ℕ) (frame : OpenFrame) (byte bit : ℕ) → IsBegun bits count front words frame → frame.letters < bits → bit < 2 → byte ≡ letter bit →
-    IsBegun bits count (front ++ byte ∷ []) words (record { start = frame.start; letters = frame.letters + 1; word = frame.word * 2 + bit })
+with_bit : (bits count : ℕ) (front words : List ℕ) (frame : OpenFrame) (byte bit : ℕ) →
+    IsBegun bits count front words frame → frame.letters < bits → bit < 2 → byte ≡ letter bit →
+    IsBegun bits count (front ++ byte ∷ []) words (record {
+      start = frame.start;
+      letters = frame.letters + 1;
+      word =
+          frame.word * 2 + bit;
+    })
 with_bit bits count front words frame byte bit begun room lt is =
     let more : letters_of (frame.letters + 1) (frame.word * 2 + bit) ≡ letters_of frame.letters frame.word ++ letter bit ∷ [] =
-    ap (λ (n : ℕ). letters_of n (frame.word * 2 + bit)) (omega arith) ∙ letters_of-more frame.letters frame.word bit lt in
+    ap (λ (n : ℕ). letters_of n (frame.word * 2 + bit)) (omega arith) ∙
+    letters_of-more frame.letters frame.word bit lt in
     record {
       before = begun.before;
       shown = begun.shown;
@@ -102,11 +118,14 @@ with_bit bits count front words frame byte bit begun room lt is =
       fits = rw (pow_more 2 frame.letters) (omega (arith, begun.fits));
       short = omega arith;
       start_is = begun.start_is;
-      front_is = ap (λ t. t ++ byte ∷ []) begun.front_is ∙ append_assoc begun.before (66 ∷ letters_of frame.letters frame.word) (byte ∷ []) ∙
-          ap (λ (b : ℕ). begun.before ++ 66 ∷ (letters_of frame.letters frame.word ++ b ∷ [])) is ∙ ap (λ t. begun.before ++ 66 ∷ t) (sym more);
+      front_is = ap (λ t. t ++ byte ∷ []) begun.front_is ∙
+          append_assoc begun.before (66 ∷ letters_of frame.letters frame.word) (byte ∷ []) ∙
+          ap (λ (b : ℕ). begun.before ++ 66 ∷ (letters_of frame.letters frame.word ++ b ∷ [])) is ∙
+          ap (λ t. begun.before ++ 66 ∷ t) (sym more);
     }
 
-letter_stands : (bits count position : ℕ) (front words : List ℕ) (frame : OpenFrame) (byte : ℕ) → IsBegun bits count front words frame → position ≡ length front → frame.letters < bits →
+letter_stands : (bits count position : ℕ) (front words : List ℕ) (frame : OpenFrame) (byte : ℕ) →
+    IsBegun bits count front words frame → position ≡ length front → frame.letters < bits →
     StandsAfterByte bits count front byte (still words (with_letter position frame (bit_of byte)))
 letter_stands bits count position front words frame byte begun at room = elim (cases_Bool (byte == 80)) [
   | inl is ↦ rw is (with_bit bits count front words frame byte 1 begun room (omega arith) (eqb-true byte 80 is))
@@ -118,11 +137,13 @@ letter_stands bits count position front words frame byte begun at room = elim (c
 ]
 
 -- the frame's end
-frame_ends : (bits count : ℕ) (front words : List ℕ) (frame : OpenFrame) (byte : ℕ) → IsBegun bits count front words frame → frame.letters ≡ bits → byte ≡ 70 →
+frame_ends : (bits count : ℕ) (front words : List ℕ) (frame : OpenFrame) (byte : ℕ) →
+    IsBegun bits count front words frame → frame.letters ≡ bits → byte ≡ 70 →
     Shows bits (words ++ frame.word ∷ []) (front ++ byte ∷ []) × (length (words ++ frame.word ∷ []) ≤ count)
 frame_ends bits count front words frame byte begun whole is =
     let text : front ++ byte ∷ [] ≡ begun.before ++ 66 ∷ (letters_of bits frame.word ++ 70 ∷ []) =
-    ap (λ t. t ++ byte ∷ []) begun.front_is ∙ append_assoc begun.before (66 ∷ letters_of frame.letters frame.word) (byte ∷ []) ∙
+    ap (λ t. t ++ byte ∷ []) begun.front_is ∙
+    append_assoc begun.before (66 ∷ letters_of frame.letters frame.word) (byte ∷ []) ∙
     ap (λ (b : ℕ). begun.before ++ 66 ∷ (letters_of frame.letters frame.word ++ b ∷ [])) is ∙
     ap (λ (n : ℕ). begun.before ++ 66 ∷ (letters_of n frame.word ++ 70 ∷ [])) whole in
     let fits : frame.word < 2 ^ bits = subst (λ (n : ℕ). frame.word < 2 ^ n) whole begun.fits in (
@@ -130,7 +151,8 @@ frame_ends bits count front words frame byte begun whole is =
       omega (arith, length-append words (frame.word ∷ []), begun.few),
     )
 
-inside_stands : (bits count position : ℕ) (front words : List ℕ) (frame : OpenFrame) (byte : ℕ) → IsBegun bits count front words frame → position ≡ length front →
+inside_stands : (bits count position : ℕ) (front words : List ℕ) (frame : OpenFrame) (byte : ℕ) →
+    IsBegun bits count front words frame → position ≡ length front →
     StandsAfterByte bits count front byte (inside bits position words frame byte)
 inside_stands bits count position front words frame byte begun at = elim (cases_Bool (nat_lt frame.letters bits)) [
   | inl lt ↦ rw lt (letter_stands bits count position front words frame byte begun at (ltb-true frame.letters bits lt))
@@ -145,15 +167,27 @@ inside_stands bits count position front words frame byte begun at = elim (cases_
     whole_is : bits ≤ frame.letters → frame.letters ≡ bits
     whole_is ge = omega (arith, ge, begun.short)
 
-byte_stands : (bits count position : ℕ) (front words : List ℕ) (begun : Option OpenFrame) (byte : ℕ) → StandsAfter bits count front words begun → position ≡ length front →
+byte_stands : (bits count position : ℕ) (front words : List ℕ) (begun : Option OpenFrame) (byte : ℕ) →
+    StandsAfter bits count front words begun → position ≡ length front →
     StandsAfterByte bits count front byte (at_byte bits count position words begun byte)
-byte_stands bits count position front words None byte stands at = outside_stands bits count position front words byte stands.0 stands.1 at
-byte_stands bits count position front words (Some frame) byte stands at = inside_stands bits count position front words frame byte stands at
+byte_stands bits count position front words None byte stands at =
+    outside_stands bits count position front words byte stands.0 stands.1 at
+byte_stands bits count position front words (Some frame) byte stands at =
+    inside_stands bits count position front words frame byte stands at
 
 -- the end of the text
-end_stands : (bits count : ℕ) (front words : List ℕ) (begun : Option OpenFrame) → StandsAfter bits count front words begun → Reads bits count front (at_end count words begun)
+end_stands : (bits count : ℕ) (front words : List ℕ) (begun : Option OpenFrame) →
+    StandsAfter bits count front words begun → Reads bits count front (at_end count words begun)
 end_stands bits count front words None stands = elim (cases_Bool (nat_lt (length words) count)) [
-  | inl lt ↦ rw lt (record { few = ltb-true (length words) count lt; whole = record { words = words; shown = stands.0; counted = refl } })
+  | inl lt ↦ rw lt (record {
+    few = ltb-true (length words) count lt;
+    whole = record {
+      words = words;
+      shown =
+          stands.0;
+      counted = refl;
+    };
+  })
   | inr ge ↦ rw ge (stands.0, all_are (ltb-false (length words) count ge))
 ]
   where
@@ -168,12 +202,14 @@ end_stands bits count front words (Some frame) begun = record {
     before = record { words = words; shown = begun.shown; counted = refl };
     letters = letters_of_are frame.letters frame.word;
     short = omega (arith, length-letters_of frame.letters frame.word, begun.short);
-    text_is = begun.front_is ∙ ap (λ t. begun.before ++ 66 ∷ t) (sym (append-nil (letters_of frame.letters frame.word)));
+    text_is = begun.front_is ∙
+        ap (λ t. begun.before ++ 66 ∷ t) (sym (append-nil (letters_of frame.letters frame.word)));
   };
   position_is = begun.start_is;
 }
 
-run_stands : (bits count position : ℕ) (front rest : List ℕ) (state : State) → StandsAfter bits count front state.words state.begun → position ≡ length front →
+run_stands : (bits count position : ℕ) (front rest : List ℕ) (state : State) →
+    StandsAfter bits count front state.words state.begun → position ≡ length front →
     Reads bits count (front ++ rest) (run bits count position state rest)
 unfolding run
 run_stands bits count position front [] state stands at =
@@ -184,8 +220,10 @@ run_stands bits count position front (byte ∷ rest) state stands at =
     (at_byte bits count position state.words state.begun byte)
     (byte_stands bits count position front state.words state.begun byte stands at)
   where
-    goes_on : ((next : State) → StandsAfter bits count (front ++ byte ∷ []) next.words next.begun → Reads bits count (front ++ byte ∷ rest) (run bits count (position + 1) next rest)) →
-        (brought : Result State BpnfFault) → StandsAfterByte bits count front byte brought → Reads bits count (front ++ byte ∷ rest) (and_then brought (λ next. run bits count (position + 1) next rest))
+    goes_on : ((next : State) → StandsAfter bits count (front ++ byte ∷ []) next.words next.begun →
+        Reads bits count (front ++ byte ∷ rest) (run bits count (position + 1) next rest)) →
+        (brought : Result State BpnfFault) → StandsAfterByte bits count front byte brought →
+        Reads bits count (front ++ byte ∷ rest) (and_then brought (λ next. run bits count (position + 1) next rest))
     goes_on further (Ok next) after = further next after
     goes_on further (Err fault) after = after rest
 
