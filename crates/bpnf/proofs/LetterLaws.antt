@@ -36,15 +36,18 @@ letters_of-last n word =
     let lt : word % 2 < 2 = omega arith in
     ap (λ (w : ℕ). letters_of (suc n) w) e ∙ letters_of-more n (word / 2) (word % 2) lt
 
+-- there are as many letters as bits
 pub length-letters_of : (n word : ℕ) → length (letters_of n word) ≡ n
 unfolding letters_of
 length-letters_of zero word = refl
 length-letters_of (suc n) word = ap (λ (k : ℕ). suc k) (length-letters_of n word)
 
+-- a bit's letter is a letter
 letter_is : (bit : ℕ) → IsLetter (letter bit)
 letter_is zero = inr refl
 letter_is (suc bit) = inl refl
 
+-- each is a letter
 pub letters_of_are : (n word : ℕ) → All IsLetter (letters_of n word)
 unfolding letters_of
 letters_of_are zero word = All-nil IsLetter

@@ -14,6 +14,7 @@ use Rattle.bpnf.specs.Frames.{IsComment, letter, IsLetter, letters_of, frame, Sh
 use Rattle.bpnf.specs.Reading.{bit_of, run, reading}
 use Rattle.bpnf.proofs.LetterLaws.{letters_of-last, length-letters_of, letters_of_are}
 
+-- the answer that is this fault
 abbrev fault_is : BpnfFault → Result (List ℕ) BpnfFault
 fault_is fault = Err fault
 
@@ -41,18 +42,21 @@ run_comment bits count position words (byte ∷ comment) rest is =
     step ∙ run_comment bits count (position + 1) words comment rest (All-tail (λ (b : ℕ). b ≢ 66) byte comment is) ∙
     ap (λ (p : ℕ). run_outside bits count p words rest) (omega arith)
 
--- the number that letters spell after others
+-- the bit of a letter
 abbrev value : ℕ → ℕ
 value byte = if byte == 80 then 1 else 0
 
+-- the number that letters spell after a number
 abbrev spelled : ℕ → List ℕ → ℕ
 spelled word [] = word
 spelled word (byte ∷ bytes) = spelled (word * 2 + value byte) bytes
 
+-- letters spell one after another
 spelled-append : (word : ℕ) (xs ys : List ℕ) → spelled word (xs ++ ys) ≡ spelled (spelled word xs) ys
 spelled-append word [] ys = refl
 spelled-append word (x ∷ xs) ys = spelled-append (word * 2 + value x) xs ys
 
+-- a bit's letter has its value
 value-letter : (bit : ℕ) → bit < 2 → value (letter bit) ≡ bit
 value-letter zero lt = refl
 value-letter (suc zero) lt = refl
@@ -79,10 +83,12 @@ begun_frame start letters word = record { start = start; letters = letters; word
 abbrev with_letters : OpenFrame → List ℕ → OpenFrame
 with_letters frame taken = begun_frame frame.start (frame.letters + length taken) (spelled frame.word taken)
 
+-- a letter is read as its value
 bit_of_value : (byte : ℕ) → IsLetter byte → bit_of byte ≡ Some (value byte)
 bit_of_value byte (inl p) = rw (eq-eqb byte 80 p) refl
 bit_of_value byte (inr n) = rw (ne_eqb byte 80 (omega arith), eq-eqb byte 78 n) refl
 
+-- letters of a frame are read one after another
 run_letters : (bits count position : ℕ) (words : List ℕ) (frame : OpenFrame) (taken rest : List ℕ) →
     All IsLetter taken → frame.letters + length taken ≤ bits →
     run_inside bits count position words frame (taken ++ rest) ≡
@@ -102,10 +108,11 @@ run_letters bits count position words frame (byte ∷ taken) rest are fit =
     ap (λ (p : ℕ). run_inside bits count p words (with_letters (with_letters frame (byte ∷ [])) taken) rest) (omega arith) ∙
     ap (λ (n : ℕ). run_inside bits count (position + length (byte ∷ taken)) words (begun_frame frame.start n (spelled frame.word (byte ∷ taken))) rest) (omega arith)
 
--- a `B` begins a frame where there is room for a word
+-- a frame of which the `B` alone is read
 abbrev begun_at : ℕ → OpenFrame
 begun_at position = begun_frame position 0 0
 
+-- a `B` where there is room for a word
 run_begin : (bits count position : ℕ) (words rest : List ℕ) → length words < count →
     run_outside bits count position words (66 ∷ rest) ≡
     run_inside bits count (position + 1) words (begun_at position) rest
@@ -173,9 +180,11 @@ reading_inside bits count front taken rest text is =
     run_begin bits count (length front) is.before.words (taken ++ rest) few ∙
     run_letters bits count (length front + 1) is.before.words (begun_at (length front)) taken rest is.letters (omega (arith, is.short))
 
+-- no other byte is read as a letter
 bit_of_other : (byte : ℕ) → (IsLetter byte → ⊥) → bit_of byte ≡ None
 bit_of_other byte other = rw (ne_eqb byte 80 (λ e. other (inl e)), ne_eqb byte 78 (λ e. other (inr e))) refl
 
+-- the first fault is a wrong byte inside a frame
 only_bad_letter : (bits count : ℕ) (text : List ℕ) (position : ℕ) → HasBadLetter bits count text position →
     reading bits count text ≡ Err (BadLetter position)
 unfolding run
@@ -196,6 +205,7 @@ only_bad_letter bits count text position bad =
         ne_eqb bad.byte 70 (bad.no_end (omega (arith, bad.inside.short, ltb-false (0 + length bad.letters) bits ge))) in
         rw (ge, other) refl
 
+-- an answer that the grammar allows is the reading
 pub only_reading : (bits count : ℕ) (text : List ℕ) (answer : Result (List ℕ) BpnfFault) →
     Reads bits count text answer → answer ≡ reading bits count text
 unfolding run

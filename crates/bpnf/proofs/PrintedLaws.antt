@@ -8,6 +8,7 @@ use Rattle.bpnf.specs.FirstFault.{Reads}
 use Rattle.bpnf.specs.Frames.{Shows}
 use Rattle.bpnf.specs.Image.{Image, IsImage}
 
+-- an LF is a comment
 line_feed : All (λ (b : ℕ). b ≢ 66) (10 ∷ [])
 line_feed = All-cons (λ (b : ℕ). b ≢ 66) 10 [] (omega arith) (All-nil (λ (b : ℕ). b ≢ 66))
 
@@ -28,6 +29,7 @@ after_frame bits (word ∷ words) fits = (
   after_frame bits words (All-tail (λ (w : ℕ). w < 2 ^ bits) word words fits),
 )
 
+-- the frames of words, each with its LF, show the words
 frames_shown : (bits : ℕ) (words : List ℕ) → All (λ word. word < 2 ^ bits) words →
     Shows bits words (frames_of bits words)
 unfolding Shows frames_of
@@ -44,5 +46,6 @@ frames_shown bits (word ∷ words) fits = (
   after_frame bits words (All-tail (λ (w : ℕ). w < 2 ^ bits) word words fits),
 )
 
+-- the canonical text of an image is read as that image
 pub printed_is_read : (image : Image) → IsImage image → Reads image.bits 512 (image_text image) (Ok image.words)
 printed_is_read image is = (frames_shown image.bits image.words is.fits, is.many)

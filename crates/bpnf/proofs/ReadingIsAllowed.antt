@@ -35,6 +35,7 @@ StandsAfterByte bits count front byte (Ok state) = StandsAfter bits count (front
 StandsAfterByte bits count front byte (Err fault) = (rest : List ℕ) →
     Reads bits count (front ++ byte ∷ rest) (Err fault)
 
+-- after a `B` outside a frame
 begins_frame : (bits count position : ℕ) (front words : List ℕ) (byte : ℕ) → Shows bits words front →
     length words ≤ count → position ≡ length front → byte ≡ 66 →
     StandsAfterByte bits count front byte (at_begin count position words)
@@ -61,6 +62,7 @@ begins_frame bits count position front words byte shown few at is = elim (cases_
     all_are : count ≤ length words → length words ≡ count
     all_are ge = omega arith
 
+-- after a byte outside a frame
 outside_stands : (bits count position : ℕ) (front words : List ℕ) (byte : ℕ) → Shows bits words front →
     length words ≤ count → position ≡ length front →
     StandsAfterByte bits count front byte (outside count position words byte)
@@ -124,6 +126,7 @@ with_bit bits count front words frame byte bit begun room lt is =
           ap (λ t. begun.before ++ 66 ∷ t) (sym more);
     }
 
+-- after a byte that should be a letter
 letter_stands : (bits count position : ℕ) (front words : List ℕ) (frame : OpenFrame) (byte : ℕ) →
     IsBegun bits count front words frame → position ≡ length front → frame.letters < bits →
     StandsAfterByte bits count front byte (still words (with_letter position frame (bit_of byte)))
@@ -151,6 +154,7 @@ frame_ends bits count front words frame byte begun whole is =
       omega (arith, length-append words (frame.word ∷ []), begun.few),
     )
 
+-- after a byte inside a frame
 inside_stands : (bits count position : ℕ) (front words : List ℕ) (frame : OpenFrame) (byte : ℕ) →
     IsBegun bits count front words frame → position ≡ length front →
     StandsAfterByte bits count front byte (inside bits position words frame byte)
@@ -167,6 +171,7 @@ inside_stands bits count position front words frame byte begun at = elim (cases_
     whole_is : bits ≤ frame.letters → frame.letters ≡ bits
     whole_is ge = omega (arith, ge, begun.short)
 
+-- after the next byte
 byte_stands : (bits count position : ℕ) (front words : List ℕ) (begun : Option OpenFrame) (byte : ℕ) →
     StandsAfter bits count front words begun → position ≡ length front →
     StandsAfterByte bits count front byte (at_byte bits count position words begun byte)
@@ -208,6 +213,7 @@ end_stands bits count front words (Some frame) begun = record {
   position_is = begun.start_is;
 }
 
+-- the bytes that are left bring an answer that the grammar allows for the whole
 run_stands : (bits count position : ℕ) (front rest : List ℕ) (state : State) →
     StandsAfter bits count front state.words state.begun → position ≡ length front →
     Reads bits count (front ++ rest) (run bits count position state rest)
@@ -227,6 +233,7 @@ run_stands bits count position front (byte ∷ rest) state stands at =
     goes_on further (Ok next) after = further next after
     goes_on further (Err fault) after = after rest
 
+-- the reading of a text is an answer that the grammar allows
 pub reading_is_read : (bits count : ℕ) (text : List ℕ) → Reads bits count text (reading bits count text)
 unfolding Shows
 reading_is_read bits count text = run_stands bits count 0 [] text first (All-nil (λ (b : ℕ). b ≢ 66), omega arith) refl
