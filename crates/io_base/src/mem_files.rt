@@ -42,25 +42,8 @@ pub fn put(
     Ok(())
 }
 
-/// Adds a piece to a file that is there.
-#[tactic(auto, using(std::proofs::lemmas::Map::Text::text_keys))]
-fn extend(files: &mut MemFiles, name: &str, piece: &[u8]) -> Result<(), OutOfMemory>
-    ensures ok { OnOk result (file_in files.new name.now
-        ≡ Some (bytes_or_empty (file_in files.old name.now) ++ piece.now)) }
-    ensures err { OnErr result (file_in files.new name.now ≡ file_in files.old name.now) }
-    ensures others { (other : List ℕ) → other ≢ name.now →
-        file_in files.new other ≡ file_in files.old other }
-{
-    match files.get_mut(name) {
-        Some(bytes) => {
-            bytes.extend_from_slice(piece)?;
-            Ok(())
-        }
-        None => Err(OutOfMemory),
-    }
-}
-
 /// Adds a piece to a file. A name that is not there counts as an empty file.
+#[tactic(auto, using(std::proofs::lemmas::Map::Text::text_keys))]
 pub fn add(alloc: Global, files: &mut MemFiles, name: &str, piece: &[u8]) -> Result<(), OutOfMemory>
     ensures ok { OnOk result (file_in files.new name.now
         ≡ Some (bytes_or_empty (file_in files.old name.now) ++ piece.now)) }
@@ -68,8 +51,9 @@ pub fn add(alloc: Global, files: &mut MemFiles, name: &str, piece: &[u8]) -> Res
     ensures others { (other : List ℕ) → other ≢ name.now →
         file_in files.new other ≡ file_in files.old other }
 {
-    if files.contains_key(name) {
-        return extend(files, name, piece);
+    if let Some(bytes) = files.get_mut(name) {
+        bytes.extend_from_slice(piece)?;
+        return Ok(());
     }
     let copy = Vec::from_slice(alloc, piece)?;
     put(alloc, files, name, copy)
