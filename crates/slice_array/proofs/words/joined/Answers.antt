@@ -1,6 +1,6 @@
-use Rattle.std.proofs.Common.{◌≡◌, ◌∙◌, sym, subst, length, rules, arith}
+use Rattle.std.proofs.Common.{arith}
 use Rattle.slice_array.specs.Regs.{registers_of}
-use Rattle.slice_array.proofs.Digital.{joined_is}
+use Rattle.slice_array.proofs.WholeDigits.{joined_is}
 use Rattle.slice_array.proofs.words.joined.Goals as goal
 
 pub returns : goal.returns

@@ -1,8 +1,8 @@
-use Rattle.std.proofs.Common.{ℕ, ◌≡◌, ◌<◌, ◌≤◌, ◌^◌, ◌+◌, length, rules, arith, ap, subst, ◌∙◌, sym, get_or}
-use Rattle.cpe_slice.specs.Registers.{Registers, AllBelow}
+use Rattle.std.proofs.Common.{ℕ, ◌≡◌, ◌<◌, ◌^◌, ◌+◌, length, rules, arith, ap, subst, ◌∙◌}
+use Rattle.cpe_slice.specs.Registers.{AllBelow}
 use Rattle.slice_array.specs.Whole.{digit}
 use Rattle.slice_array.specs.Regs.{registers_of}
-use Rattle.slice_array.proofs.Digital.{whole_digits, all_digits}
+use Rattle.slice_array.proofs.WholeDigits.{whole_digits, all_digits}
 use Rattle.slice_array.proofs.words.spread.Goals as goal
 
 pub returns-clause-value : goal.returns-clause-value

@@ -1,5 +1,5 @@
 -- The loop over the slices: what stands after j of them.
-use Rattle.std.proofs.Common.{ℕ, zero, suc, ◌+◌, ◌-◌, ◌*◌, ◌/◌, ◌%◌, ◌^◌, ◌<◌, ◌≤◌, ◌≡◌, Bool, true, false, refl, sym, ap, subst, ◌∙◌, arith, rules, List, [], ◌∷◌, ◌++◌, length, take, drop, get_or, set, add-one, drop-cons, append_assoc, append-nil, bit_and}
+use Rattle.std.proofs.Common.{ℕ, zero, suc, ◌+◌, ◌*◌, ◌/◌, ◌%◌, ◌^◌, ◌<◌, ◌≤◌, ◌≡◌, Bool, true, false, refl, sym, ap, subst, ◌∙◌, arith, List, [], ◌∷◌, ◌++◌, length, take, drop, get_or, set, add-one, drop-cons, append_assoc, append-nil, bit_and}
 use Rattle.std.proofs.lemmas.Nat.{one_shl, and_mask, pow-add, mul-pow}
 use Rattle.std.proofs.lemmas.List.{drop-drop, drop-set-lt, take_all, drop_all}
 use Rattle.std.proofs.lemmas.Grind.{take-set_at}
@@ -8,7 +8,7 @@ use mir.Val.{bool_byte}
 use Rattle.cpe_slice.specs.Registers.{Registers, AllBelow}
 use Rattle.cpe_slice.specs.WordStep.{Inputs, array_step, bit}
 use Rattle.slice_array.specs.Whole.{whole, AllSlices}
-use Rattle.slice_array.proofs.Rippled.{Run, RunIs, BusesFit, run, run_is, digit_inputs, rest_inputs}
+use Rattle.slice_array.proofs.RippleRun.{Run, RunIs, BusesFit, run, run_is, digit_inputs, rest_inputs}
 use Rattle.cpe_slice.specs.FunctionCode.{is_shift}
 
 -- what the slices from j on take in

@@ -1,14 +1,12 @@
 -- The right shift: a slice below the slices above it, from which its LI comes.
-use Rattle.std.proofs.Common.{ℕ, zero, suc, ◌+◌, ◌-◌, ◌*◌, ◌/◌, ◌%◌, ◌^◌, ◌<◌, ◌≤◌, ◌≡◌, Bool, true, false, refl, sym, ap, subst, ◌∙◌, arith, rules, List, [], ◌∷◌, ◌++◌, length, take, drop, get_or, set, add-one, drop-cons}
-use Rattle.std.proofs.lemmas.List.{drop-drop, drop-set-lt, take_all, drop_all}
+use Rattle.std.proofs.Common.{ℕ, zero, suc, ◌+◌, ◌*◌, ◌/◌, ◌%◌, ◌^◌, ◌<◌, ◌≡◌, true, refl, sym, ap, subst, ◌∙◌, arith, List, [], ◌∷◌, length}
 use Rattle.std.proofs.Math.Nat.{pow-suc, div-div-eq-div-mul}
-use mir.Val.{bool_byte}
 use Rattle.cpe_slice.specs.Registers.{Registers, AllBelow}
-use Rattle.cpe_slice.specs.WordStep.{Inputs, array_step, bit, source_word, result_word, link, bits_below, registers_after, mar_after}
+use Rattle.cpe_slice.specs.WordStep.{Inputs, array_step, source_word, result_word, link, bits_below, mar_after}
 use Rattle.cpe_slice.proofs.Cases.{result_shift, link_shift}
-use Rattle.slice_array.specs.Whole.{join, whole, zero_registers, AllSlices}
-use Rattle.slice_array.proofs.Joined.{join_inputs, IsDigits, IsWhole, source_join', source_below, mar_join, put_join, ten_each}
-use Rattle.slice_array.proofs.Rippled.{Run, RunIs, BusesFit, digit_inputs, rest_inputs, join_halves, join_zero, whole_below, bits_below_first, bits_below_same, eval_ten, digits_only, one_bit, rest_fit, links_is}
+use Rattle.slice_array.specs.Whole.{join, whole, AllSlices}
+use Rattle.slice_array.proofs.JoinedWords.{join_inputs, IsDigits, IsWhole, source_word_of_digits, source_word_below, mar_after_join, registers_after_join, ten_each}
+use Rattle.slice_array.proofs.RippleRun.{Run, RunIs, BusesFit, rest_inputs, join_halves, join_zero, whole_below, bits_below_first, bits_below_same, array_step_ten, digits_only, one_bit, rest_fit, links_is}
 use Rattle.cpe_slice.specs.FunctionCode.{is_shift}
 
 pub fi_shift : (n code : ℕ) (b : Inputs) (w : Registers) → is_shift code ≡ true → (array_step n code b w).fi ≡ link n code b w 0
@@ -29,7 +27,7 @@ pub result_join_shift : (code n : ℕ) (p q : Inputs) (s w : Registers) → 0 < 
     → result_word (suc n) code (join_inputs p q) (join s w) ≡ result_word n code q w * 4 + result_word 1 code p s
 result_join_shift code zero p q s w pos d h e c = absurd (omega arith)
 result_join_shift code (suc k) p q s w pos d h e c =
-    rw (result_shift (suc (suc k)) code (join_inputs p q) (join s w) e, result_shift (suc k) code q w e, result_shift 1 code p s e, source_join' code (suc k) p q s w d h)
+    rw (result_shift (suc (suc k)) code (join_inputs p q) (join s w) e, result_shift (suc k) code q w e, result_shift 1 code p s e, source_word_of_digits code (suc k) p q s w d h)
     (halved k (source_word code q.m w) (source_word code p.m s) p.li q.li (c ∙ link_shift (suc k) code q w 0 e))
 
 above_digit : (x y j : ℕ) → y < 4 → (x * 4 + y) / 4 ^ suc j % 2 ≡ x / 4 ^ j % 2
@@ -41,22 +39,22 @@ above_digit x y j h =
 pub link_join_shift : (code n j : ℕ) (p q : Inputs) (s w : Registers) → IsDigits p s → IsWhole n q w → is_shift code ≡ true
     → link (suc n) code (join_inputs p q) (join s w) (suc j) ≡ link n code q w j
 link_join_shift code n j p q s w d h e =
-    rw (link_shift (suc n) code (join_inputs p q) (join s w) (suc j) e, link_shift n code q w j e, source_join' code n p q s w d h)
-    (above_digit (source_word code q.m w) (source_word code p.m s) j (source_below 4 code p.m s (omega arith) d.m d.registers))
+    rw (link_shift (suc n) code (join_inputs p q) (join s w) (suc j) e, link_shift n code q w j e, source_word_of_digits code n p q s w d h)
+    (above_digit (source_word code q.m w) (source_word code p.m s) j (source_word_below 4 code p.m s (omega arith) d.m d.registers))
 
 pub link_zero_shift : (code n : ℕ) (p q : Inputs) (s w : Registers) → IsDigits p s → IsWhole n q w → is_shift code ≡ true
     → link (suc n) code (join_inputs p q) (join s w) 0 ≡ link 1 code p s 0
 link_zero_shift code n p q s w d h e =
-    rw (link_shift (suc n) code (join_inputs p q) (join s w) 0 e, link_shift 1 code p s 0 e, source_join' code n p q s w d h)
+    rw (link_shift (suc n) code (join_inputs p q) (join s w) 0 e, link_shift 1 code p s 0 e, source_word_of_digits code n p q s w d h)
     (let k : (source_word code q.m w * 4 + source_word code p.m s) / 1 % 2 ≡ source_word code p.m s / 1 % 2 = omega arith in k)
 
-pub words_join_shift : (code n : ℕ) (p q : Inputs) (s w : Registers) → 0 < n → IsDigits p s → IsWhole n q w → is_shift code ≡ true
+pub registers_join_shift : (code n : ℕ) (p q : Inputs) (s w : Registers) → 0 < n → IsDigits p s → IsWhole n q w → is_shift code ≡ true
     → p.li ≡ link n code q w 0
     → (array_step (suc n) code (join_inputs p q) (join s w)).registers ≡ join (array_step 1 code p s).registers (array_step n code q w).registers
 unfolding array_step
-words_join_shift code n p q s w pos d h e c =
-    rw (result_join_shift code n p q s w pos d h e c, mar_join code n p q s w d h)
-    (ap (λ (o : Registers). record o { mar = mar_after code q w * 4 + mar_after code p s }) (put_join code (result_word 1 code p s) (result_word n code q w) s w (ten_each p s n q w d h)))
+registers_join_shift code n p q s w pos d h e c =
+    rw (result_join_shift code n p q s w pos d h e c, mar_after_join code n p q s w d h)
+    (ap (λ (o : Registers). record o { mar = mar_after code q w * 4 + mar_after code p s }) (registers_after_join code (result_word 1 code p s) (result_word n code q w) s w (ten_each p s n q w d h)))
 
 pub links_join_shift : (code n : ℕ) (p q : Inputs) (s w : Registers) → IsDigits p s → IsWhole n q w → is_shift code ≡ true
     → bits_below (suc n) (link (suc n) code (join_inputs p q) (join s w)) ≡ link 1 code p s 0 + 2 * bits_below n (link n code q w)
@@ -88,7 +86,7 @@ pub shift_step : (code n : ℕ) (p q : Inputs) (s w : Registers) (above : Run) �
 shift_step code n p q s w above pos d h e c r =
     let first : p.li ≡ link n code q w 0 = c ∙ r.carry ∙ fi_shift n code q w e in
     record {
-      registers = ap (join (array_step 1 code p s).registers) r.registers ∙ sym (words_join_shift code n p q s w pos d h e first);
+      registers = ap (join (array_step 1 code p s).registers) r.registers ∙ sym (registers_join_shift code n p q s w pos d h e first);
       links = ap (λ (x : ℕ). (array_step 1 code p s).fi + 2 * x) (r.links ∙ links_is n code q w) ∙ ap (λ (x : ℕ). x + 2 * bits_below n (link n code q w)) (fi_shift 1 code p s e)
           ∙ sym (links_join_shift code n p q s w d h e) ∙ sym (links_is (suc n) code (join_inputs p q) (join s w));
       carry = fi_shift 1 code p s e ∙ sym (link_zero_shift code n p q s w d h e) ∙ sym (fi_shift (suc n) code (join_inputs p q) (join s w) e);
@@ -98,7 +96,7 @@ pub shift_one : (code : ℕ) (b : Inputs) (s : Registers) → AllBelow 4 s → B
 unfolding run_shift
 shift_one code b s a h e =
     rw (join_zero s a.ten, digits_only b h) record {
-      registers = join_zero (array_step 1 code b s).registers (eval_ten 1 code b s ∙ a.ten);
+      registers = join_zero (array_step 1 code b s).registers (array_step_ten 1 code b s ∙ a.ten);
       links = ap (λ (x : ℕ). x + 0) (fi_shift 1 code b s e) ∙ (one_bit (link 1 code b s)) ∙ sym (links_is 1 code b s);
       carry = refl;
     }

@@ -1,8 +1,8 @@
 use Rattle.std.proofs.Common.{◌∙◌, ap, sym, length}
 use Rattle.cpe_slice.specs.WordStep.{bit, StepOutcome}
 use Rattle.slice_array.specs.Whole.{whole}
-use Rattle.slice_array.proofs.Lines.{array_step_li, array_step_ci}
-use Rattle.slice_array.proofs.step_slices.Goals as goal
+use Rattle.slice_array.proofs.UnusedLines.{array_step_li, array_step_ci}
+use Rattle.slice_array.proofs.wiring.step_slices.Goals as goal
 
 pub returns-then-is_shift-clause-registers : goal.returns-then-is_shift-clause-registers
 returns-then-is_shift-clause-registers c =

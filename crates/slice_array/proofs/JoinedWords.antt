@@ -1,17 +1,17 @@
 -- What the words of a slice below those of the slices above it give, in each part of the table.
-use Rattle.std.proofs.Common.{ℕ, zero, suc, ◌+◌, ◌-◌, ◌*◌, ◌/◌, ◌%◌, ◌^◌, ◌<◌, ◌≤◌, ◌≡◌, ◌==◌, nat_eq, Bool, true, false, if◌then◌else◌, bit_and, bit_or, bit_xor, refl, sym, ap, subst, ◌∙◌, arith, rules, List, [], ◌∷◌, inl, inr, length, get_or, set as put_at, All, nat_lt, not, ◌&&◌}
-use Rattle.cpe_slice.specs.declared.code.Reg.{Reg}
-use Rattle.cpe_slice.specs.declared.code.Reg.TheVariants.{R, T, Ac}
+use Rattle.std.proofs.Common.{ℕ, zero, suc, ◌+◌, ◌-◌, ◌*◌, ◌^◌, ◌<◌, ◌≤◌, ◌≡◌, ◌==◌, Bool, true, false, if◌then◌else◌, bit_and, bit_or, bit_xor, refl, sym, ap, subst, ◌∙◌, arith, List, [], ◌∷◌, inl, inr, length, get_or, set as put_at, All, not, ◌&&◌}
+use Rattle.cpe_slice.specs.declared.register.Reg.{Reg}
+use Rattle.cpe_slice.specs.declared.register.Reg.TheVariants.{R, T, Ac}
 use Rattle.cpe_slice.specs.Registers.{Registers, AllBelow, get, set}
-use Rattle.cpe_slice.specs.FunctionCode.{function_of, group_of, register_of, is_shift}
-use Rattle.cpe_slice.specs.WordStep.{Inputs, source_word, masked_word, operand_a, operand_b, logic_word, test_word, sum_carry, or_carry, result_word, link, mar_after, registers_after}
+use Rattle.cpe_slice.specs.FunctionCode.{function_of, group_of, register_of}
+use Rattle.cpe_slice.specs.WordStep.{Inputs, source_word, masked_word, operand_a, operand_b, logic_word, test_word, mar_after, registers_after}
 use Rattle.std.proofs.lemmas.Bool.{cases_lt}
 use Rattle.std.proofs.lemmas.List.Elements.{All-get_or}
 use Rattle.std.proofs.lemmas.Nat.{and_le_l, and_le_r, or_lt, xor_lt, mul-pow, pow-add}
 use Rattle.std.proofs.Math.Nat.{lt_of_le_of_lt}
 use Rattle.std.proofs.Math.ListN.{get_or-eq_default}
 use Rattle.slice_array.specs.Whole.{join, join_list}
-use Rattle.slice_array.proofs.Digits.{pow4_pos, and_digits, or_digits, xor_digits, not_digits, top_digits}
+use Rattle.slice_array.proofs.BaseFour.{pow4_pos, and_digits, or_digits, xor_digits, not_digits, top_digits}
 
 -- a digit of each bus below the rest of it
 abbrev pub join_inputs : Inputs → Inputs → Inputs
@@ -76,34 +76,34 @@ get_below limit w (R n) h a = index_below w.r n limit h a.r
 get_below limit w T h a = a.t
 get_below limit w Ac h a = a.ac
 
-pub source_below : (limit code m : ℕ) (w : Registers) → 0 < limit → m < limit → AllBelow limit w → source_word code m w < limit
+pub source_word_below : (limit code m : ℕ) (w : Registers) → 0 < limit → m < limit → AllBelow limit w → source_word code m w < limit
 unfolding source_word
-source_below limit code m w h p a =
+source_word_below limit code m w h p a =
     elim (group_of code == 2) as (λ g. (if g then m else get w (register_of code)) < limit) [ true ↦ p | false ↦ get_below limit w (register_of code) h a ]
 
-pub mask_below : (limit code k i : ℕ) (w : Registers) → 0 < limit → k < limit → masked_word code k i w < limit
+pub masked_word_below : (limit code k i : ℕ) (w : Registers) → 0 < limit → k < limit → masked_word code k i w < limit
 unfolding masked_word
-mask_below limit code k i w h p = lt_of_le_of_lt (and_le_r _ k) p
+masked_word_below limit code k i w h p = lt_of_le_of_lt (and_le_r _ k) p
 
 pub ten_each : (p : Inputs) (s : Registers) (n : ℕ) (q : Inputs) (w : Registers) → IsDigits p s → IsWhole n q w → length s.r ≡ length w.r
 ten_each p s n q w d h = d.registers.ten ∙ sym h.registers.ten
 
-pub source_join' : (code n : ℕ) (p q : Inputs) (s w : Registers) → IsDigits p s → IsWhole n q w
+pub source_word_of_digits : (code n : ℕ) (p q : Inputs) (s w : Registers) → IsDigits p s → IsWhole n q w
     → source_word code (q.m * 4 + p.m) (join s w) ≡ source_word code q.m w * 4 + source_word code p.m s
-source_join' code n p q s w d h = source_word_join code p.m q.m s w (ten_each p s n q w d h)
+source_word_of_digits code n p q s w d h = source_word_join code p.m q.m s w (ten_each p s n q w d h)
 
-pub mask_join' : (code n : ℕ) (p q : Inputs) (s w : Registers) → IsDigits p s
+pub masked_word_of_digits : (code n : ℕ) (p q : Inputs) (s w : Registers) → IsDigits p s
     → masked_word code (q.k * 4 + p.k) (q.i * 4 + p.i) (join s w) ≡ masked_word code q.k q.i w * 4 + masked_word code p.k p.i s
-mask_join' code n p q s w d = masked_word_join code p.k q.k p.i q.i s w d.k d.i d.registers.ac
+masked_word_of_digits code n p q s w d = masked_word_join code p.k q.k p.i q.i s w d.k d.i d.registers.ac
 
 pub operand_a_join : (code n : ℕ) (p q : Inputs) (s w : Registers) → IsDigits p s → IsWhole n q w
     → operand_a (4 ^ suc n - 1) code (join_inputs p q) (join s w) ≡ operand_a (4 ^ n - 1) code q w * 4 + operand_a 3 code p s
 unfolding operand_a
 operand_a_join code n p q s w d h =
-    rw (top_digits n, source_join' code n p q s w d h, mask_join' code n p q s w d)
+    rw (top_digits n, source_word_of_digits code n p q s w d h, masked_word_of_digits code n p q s w d)
     (by_cases (function_of code == 1) (group_of code == 3) (function_of code == 2) (source_word code q.m w) (source_word code p.m s) (masked_word code q.k q.i w) (masked_word code p.k p.i s)
-    (source_below 4 code p.m s (omega arith) d.m d.registers)
-    (let lt : source_word code q.m w < 4 ^ n = source_below (4 ^ n) code q.m w (pow4_pos n) h.m h.registers in omega arith))
+    (source_word_below 4 code p.m s (omega arith) d.m d.registers)
+    (let lt : source_word code q.m w < 4 ^ n = source_word_below (4 ^ n) code q.m w (pow4_pos n) h.m h.registers in omega arith))
   where
     by_cases : (f1 g3 f2 : Bool) (x y u v : ℕ) → y < 4 → x ≤ 4 ^ n - 1
         → (if f1 then if g3 then bit_or ((4 ^ n - 1) * 4 + 3 - (x * 4 + y)) (q.k * 4 + p.k) else x * 4 + y else if f2 then u * 4 + v else x * 4 + y)
@@ -120,9 +120,9 @@ pub operand_b_join : (code n : ℕ) (p q : Inputs) (s w : Registers) → IsDigit
     → operand_b (4 ^ suc n - 1) code (join_inputs p q) (join s w) ≡ operand_b (4 ^ n - 1) code q w * 4 + operand_b 3 code p s
 unfolding operand_b
 operand_b_join code n p q s w d h =
-    rw (top_digits n, source_join' code n p q s w d h, mask_join' code n p q s w d)
+    rw (top_digits n, source_word_of_digits code n p q s w d h, masked_word_of_digits code n p q s w d)
     (by_cases (function_of code == 1) (group_of code == 3) (function_of code == 2) (source_word code q.m w) (source_word code p.m s) (masked_word code q.k q.i w) (masked_word code p.k p.i s)
-    (source_below 4 code p.m s (omega arith) d.m d.registers))
+    (source_word_below 4 code p.m s (omega arith) d.m d.registers))
   where
     by_cases : (f1 g3 f2 : Bool) (x y u v : ℕ) → y < 4
         → (if f1 then if g3 then bit_and (x * 4 + y) (q.k * 4 + p.k) else q.k * 4 + p.k else if f2 then (4 ^ n - 1) * 4 + 3 else u * 4 + v)
@@ -142,14 +142,14 @@ xor_below n a b p q = subst (λ (l : ℕ). bit_xor a b < l) (sym (pow4 n)) (xor_
 pub or_below : (n a b : ℕ) → a < 4 ^ n → b < 4 ^ n → bit_or a b < 4 ^ n
 or_below n a b p q = subst (λ (l : ℕ). bit_or a b < l) (sym (pow4 n)) (or_lt (n + n) a b (subst (λ (l : ℕ). a < l) (pow4 n) p) (subst (λ (l : ℕ). b < l) (pow4 n) q))
 
-pub logic_join : (code n : ℕ) (p q : Inputs) (s w : Registers) → IsDigits p s → IsWhole n q w
+pub logic_word_join : (code n : ℕ) (p q : Inputs) (s w : Registers) → IsDigits p s → IsWhole n q w
     → logic_word (4 ^ suc n - 1) code (join_inputs p q) (join s w) ≡ logic_word (4 ^ n - 1) code q w * 4 + logic_word 3 code p s
 unfolding logic_word
-logic_join code n p q s w d h =
-    rw (top_digits n, source_join' code n p q s w d h, mask_join' code n p q s w d)
+logic_word_join code n p q s w d h =
+    rw (top_digits n, source_word_of_digits code n p q s w d h, masked_word_of_digits code n p q s w d)
     (by_cases (function_of code == 4) (function_of code == 5) (function_of code == 6) (source_word code q.m w) (source_word code p.m s) (masked_word code q.k q.i w) (masked_word code p.k p.i s)
-    (source_below 4 code p.m s (omega arith) d.m d.registers) (mask_below 4 code p.k p.i s (omega arith) d.k)
-    (source_below (4 ^ n) code q.m w (pow4_pos n) h.m h.registers) (mask_below (4 ^ n) code q.k q.i w (pow4_pos n) h.k))
+    (source_word_below 4 code p.m s (omega arith) d.m d.registers) (masked_word_below 4 code p.k p.i s (omega arith) d.k)
+    (source_word_below (4 ^ n) code q.m w (pow4_pos n) h.m h.registers) (masked_word_below (4 ^ n) code q.k q.i w (pow4_pos n) h.k))
   where
     by_cases : (f4 f5 f6 : Bool) (x y u v : ℕ) → y < 4 → v < 4 → x < 4 ^ n → u < 4 ^ n
         → (if f4 then bit_and (x * 4 + y) (u * 4 + v) else if f5 then bit_and (q.k * 4 + p.k) (x * 4 + y) else if f6 then bit_or (x * 4 + y) (u * 4 + v)
@@ -163,13 +163,13 @@ logic_join code n p q s w d h =
         let top : bit_xor x u ≤ 4 ^ n - 1 = omega (arith, xor_below n x u xs us) in
         rw (xor_digits x u y v ys vs) (not_digits (4 ^ n - 1) (bit_xor x u) (bit_xor y v) top (xor_lt 2 y v ys vs))
 
-pub test_join : (code n : ℕ) (p q : Inputs) (s w : Registers) → IsDigits p s → IsWhole n q w
+pub test_word_join : (code n : ℕ) (p q : Inputs) (s w : Registers) → IsDigits p s → IsWhole n q w
     → test_word code (join_inputs p q) (join s w) ≡ test_word code q w * 4 + test_word code p s
 unfolding test_word
-test_join code n p q s w d h =
-    rw (source_join' code n p q s w d h, mask_join' code n p q s w d)
+test_word_join code n p q s w d h =
+    rw (source_word_of_digits code n p q s w d h, masked_word_of_digits code n p q s w d)
     (by_cases (function_of code == 5) (function_of code == 6) (source_word code q.m w) (source_word code p.m s) (masked_word code q.k q.i w) (masked_word code p.k p.i s)
-    (source_below 4 code p.m s (omega arith) d.m d.registers) (mask_below 4 code p.k p.i s (omega arith) d.k))
+    (source_word_below 4 code p.m s (omega arith) d.m d.registers) (masked_word_below 4 code p.k p.i s (omega arith) d.k))
   where
     by_cases : (f5 f6 : Bool) (x y u v : ℕ) → y < 4 → v < 4
         → (if f5 then bit_and (q.k * 4 + p.k) (x * 4 + y) else if f6 then u * 4 + v else bit_and (x * 4 + y) (u * 4 + v))
@@ -178,21 +178,21 @@ test_join code n p q s w d h =
     by_cases false true x y u v ys vs = refl
     by_cases false false x y u v ys vs = and_digits x u y v ys vs
 
-pub mar_join : (code n : ℕ) (p q : Inputs) (s w : Registers) → IsDigits p s → IsWhole n q w
+pub mar_after_join : (code n : ℕ) (p q : Inputs) (s w : Registers) → IsDigits p s → IsWhole n q w
     → mar_after code (join_inputs p q) (join s w) ≡ mar_after code q w * 4 + mar_after code p s
 unfolding mar_after
-mar_join code n p q s w d h =
-    rw (source_join' code n p q s w d h)
-    (by_cases (function_of code == 1 && not (group_of code == 3)) (source_word code q.m w) (source_word code p.m s) (source_below 4 code p.m s (omega arith) d.m d.registers))
+mar_after_join code n p q s w d h =
+    rw (source_word_of_digits code n p q s w d h)
+    (by_cases (function_of code == 1 && not (group_of code == 3)) (source_word code q.m w) (source_word code p.m s) (source_word_below 4 code p.m s (omega arith) d.m d.registers))
   where
     by_cases : (f1 : Bool) (x y : ℕ) → y < 4
         → (if f1 then bit_or (q.k * 4 + p.k) (x * 4 + y) else w.mar * 4 + s.mar) ≡ (if f1 then bit_or q.k x else w.mar) * 4 + (if f1 then bit_or p.k y else s.mar)
     by_cases true x y ys = or_digits q.k x p.k y d.k ys
     by_cases false x y ys = refl
 
-pub put_join : (code d v : ℕ) (s w : Registers) → length s.r ≡ length w.r → registers_after code (v * 4 + d) (join s w) ≡ join (registers_after code d s) (registers_after code v w)
+pub registers_after_join : (code d v : ℕ) (s w : Registers) → length s.r ≡ length w.r → registers_after code (v * 4 + d) (join s w) ≡ join (registers_after code d s) (registers_after code v w)
 unfolding registers_after
-put_join code d v s w e =
+registers_after_join code d v s w e =
     elim (function_of code == 0 && group_of code == 1)
     as (λ g. (if g then record (set (join s w) (register_of code) (v * 4 + d)) { ac = v * 4 + d } else set (join s w) (register_of code) (v * 4 + d))
     ≡ join (if g then record (set s (register_of code) d) { ac = d } else set s (register_of code) d) (if g then record (set w (register_of code) v) { ac = v } else set w (register_of code) v))
@@ -202,7 +202,7 @@ put_join code d v s w e =
 pub operand_a_below : (code : ℕ) (p : Inputs) (s : Registers) → IsDigits p s → operand_a 3 code p s < 4
 unfolding operand_a
 operand_a_below code p s d = by_cases (function_of code == 1) (group_of code == 3) (function_of code == 2) (source_word code p.m s) (masked_word code p.k p.i s)
-    (source_below 4 code p.m s (omega arith) d.m d.registers) (mask_below 4 code p.k p.i s (omega arith) d.k)
+    (source_word_below 4 code p.m s (omega arith) d.m d.registers) (masked_word_below 4 code p.k p.i s (omega arith) d.k)
   where
     by_cases : (f1 g3 f2 : Bool) (y v : ℕ) → y < 4 → v < 4 → (if f1 then if g3 then bit_or (3 - y) p.k else y else if f2 then v else y) < 4
     by_cases true true f2 y v ys vs = or_lt 2 (3 - y) p.k (let k : 3 - y < 4 = omega arith in k) d.k
@@ -213,7 +213,7 @@ operand_a_below code p s d = by_cases (function_of code == 1) (group_of code == 
 pub operand_b_below : (code : ℕ) (p : Inputs) (s : Registers) → IsDigits p s → operand_b 3 code p s < 4
 unfolding operand_b
 operand_b_below code p s d = by_cases (function_of code == 1) (group_of code == 3) (function_of code == 2) (source_word code p.m s) (masked_word code p.k p.i s)
-    (source_below 4 code p.m s (omega arith) d.m d.registers) (mask_below 4 code p.k p.i s (omega arith) d.k)
+    (source_word_below 4 code p.m s (omega arith) d.m d.registers) (masked_word_below 4 code p.k p.i s (omega arith) d.k)
   where
     by_cases : (f1 g3 f2 : Bool) (y v : ℕ) → y < 4 → v < 4 → (if f1 then if g3 then bit_and y p.k else p.k else if f2 then 3 else v) < 4
     by_cases true true f2 y v ys vs = lt_of_le_of_lt (and_le_l y p.k) ys
@@ -221,10 +221,10 @@ operand_b_below code p s d = by_cases (function_of code == 1) (group_of code == 
     by_cases false g3 true y v ys vs = omega arith
     by_cases false g3 false y v ys vs = vs
 
-pub test_below : (code : ℕ) (p : Inputs) (s : Registers) → IsDigits p s → test_word code p s < 4
+pub test_word_below : (code : ℕ) (p : Inputs) (s : Registers) → IsDigits p s → test_word code p s < 4
 unfolding test_word
-test_below code p s d = by_cases (function_of code == 5) (function_of code == 6) (source_word code p.m s) (masked_word code p.k p.i s)
-    (source_below 4 code p.m s (omega arith) d.m d.registers) (mask_below 4 code p.k p.i s (omega arith) d.k)
+test_word_below code p s d = by_cases (function_of code == 5) (function_of code == 6) (source_word code p.m s) (masked_word code p.k p.i s)
+    (source_word_below 4 code p.m s (omega arith) d.m d.registers) (masked_word_below 4 code p.k p.i s (omega arith) d.k)
   where
     by_cases : (f5 f6 : Bool) (y v : ℕ) → y < 4 → v < 4 → (if f5 then bit_and p.k y else if f6 then v else bit_and y v) < 4
     by_cases true f6 y v ys vs = lt_of_le_of_lt (and_le_l p.k y) d.k

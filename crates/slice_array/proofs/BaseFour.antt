@@ -1,10 +1,9 @@
 -- A digit below a whole number, to the base 4.
-use Rattle.std.proofs.Common.{ℕ, zero, suc, ◌+◌, ◌-◌, ◌*◌, ◌/◌, ◌%◌, ◌^◌, ◌<◌, ◌≤◌, ◌≡◌, ◌==◌, nat_eq, Bool, true, false, if◌then◌else◌, bit_and, bit_or, bit_xor, refl, sym, ap, ◌∙◌, arith, rules, mul_comm}
-use Rattle.std.proofs.lemmas.Nat.{and_block, or_block, xor_block, or_lt, xor_lt, and_le_l}
+use Rattle.std.proofs.Common.{ℕ, zero, suc, ◌+◌, ◌-◌, ◌*◌, ◌/◌, ◌%◌, ◌^◌, ◌<◌, ◌≤◌, ◌≡◌, bit_and, bit_or, bit_xor, sym, ap, ◌∙◌, arith, mul_comm}
+use Rattle.std.proofs.lemmas.Nat.{and_block, or_block, xor_block}
 use Rattle.std.proofs.lemmas.Bool.Decides.{nat_tests}
 use Rattle.std.proofs.Math.Nat.{pow-suc, div-div-eq-div-mul}
 use Rattle.std.proofs.Math.Arith.{mod-mul}
-use lib.Pow.{pow_pos as two_pow_pos}
 use Rattle.cpe_slice.specs.WordStep.{sum_carry, or_carry, any_bit}
 
 pub pow4_pos : (n : ℕ) → 0 < 4 ^ n

@@ -1,15 +1,15 @@
 -- The loop of the shift, from the last slice down: what stands when j slices are left.
-use Rattle.std.proofs.Common.{ℕ, zero, suc, ◌+◌, ◌-◌, ◌*◌, ◌/◌, ◌%◌, ◌^◌, ◌<◌, ◌≤◌, ◌≡◌, Bool, true, false, refl, sym, ap, subst, ◌∙◌, arith, rules, List, [], ◌∷◌, ◌++◌, length, take, drop, get_or, set, add-one, drop-cons}
-use Rattle.std.proofs.lemmas.List.{drop-drop, drop-set-lt, take-set, take_all, drop_all, take-take, get_or-take}
+use Rattle.std.proofs.Common.{ℕ, ◌+◌, ◌*◌, ◌/◌, ◌%◌, ◌^◌, ◌<◌, ◌≤◌, ◌≡◌, Bool, true, false, refl, sym, ap, ◌∙◌, arith, List, [], ◌∷◌, length, take, drop, get_or, set, add-one, drop-cons}
+use Rattle.std.proofs.lemmas.List.{take-set, drop_all, take-take, get_or-take}
 use Rattle.std.proofs.lemmas.Grind.{drop-set_at}
-use Rattle.std.proofs.Math.Nat.{pow-suc, pow-le-pow_right, div-one}
+use Rattle.std.proofs.Math.Nat.{pow-le-pow_right, div-one}
 use mir.Val.{bool_byte}
 use Rattle.cpe_slice.specs.Registers.{Registers, AllBelow}
 use Rattle.cpe_slice.specs.WordStep.{Inputs, array_step, bit}
 use Rattle.slice_array.specs.Whole.{whole, AllSlices}
-use Rattle.slice_array.proofs.Rippled.{Run, RunIs, BusesFit, rest_inputs}
-use Rattle.slice_array.proofs.Shifted.{run_shift, shift_inputs, shift_is}
-use Rattle.slice_array.proofs.Through.{further, all_set, shifted, twice}
+use Rattle.slice_array.proofs.RippleRun.{Run, RunIs, BusesFit, rest_inputs}
+use Rattle.slice_array.proofs.ShiftRun.{run_shift, shift_inputs, shift_is}
+use Rattle.slice_array.proofs.RippleLoop.{further, all_set, shifted, twice}
 use Rattle.cpe_slice.specs.FunctionCode.{is_shift}
 
 abbrev pub inputs_above : ℕ → Inputs → Inputs

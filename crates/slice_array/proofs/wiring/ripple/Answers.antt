@@ -1,8 +1,8 @@
-use Rattle.std.proofs.Common.{rules, arith, refl, sym, ◌≡◌, ◌<◌, ◌≤◌, ◌/◌, ◌%◌, ◌^◌, ◌*◌, ℕ, length, bit_and, get_or}
-use Rattle.cpe_slice.specs.WordStep.{Inputs, bit}
-use Rattle.slice_array.proofs.Rippled.{digit_inputs}
-use Rattle.slice_array.proofs.Through.{inputs_from, next, done, two_shift}
-use Rattle.slice_array.proofs.ripple.Goals as goal
+use Rattle.std.proofs.Common.{rules, refl, ◌≡◌, ◌<◌, ◌≤◌, ◌/◌, ◌^◌, ◌*◌, ℕ, length, bit_and, get_or}
+use Rattle.cpe_slice.specs.WordStep.{bit}
+use Rattle.slice_array.proofs.RippleRun.{digit_inputs}
+use Rattle.slice_array.proofs.RippleLoop.{inputs_from, next, done, two_shift}
+use Rattle.slice_array.proofs.wiring.ripple.Goals as goal
 
 digits_from : (k m i li j : ℕ) (c d : _) → (record { k = bit_and (k / 2 ^ (2 * j)) 3; m = bit_and (m / 2 ^ (2 * j)) 3; i = bit_and (i / 2 ^ (2 * j)) 3; ci = bit c; li = li })
     ≡ digit_inputs (inputs_from j (record { k = k; m = m; i = i; ci = bit d; li = li }) c)

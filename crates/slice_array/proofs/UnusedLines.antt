@@ -1,10 +1,10 @@
 -- LI matters in the shift alone, and CI outside it.
-use Rattle.std.proofs.Common.{ℕ, ◌≡◌, ◌+◌, ◌-◌, Bool, true, false, refl, ap, if◌then◌else◌, nat_lt, List, replicate, length, ◌<◌, ◌≤◌, ◌^◌, zero, suc, sym, ◌∙◌, arith, ◌∷◌, []}
+use Rattle.std.proofs.Common.{ℕ, ◌≡◌, true, false, refl, ap, replicate, zero, suc, sym, ◌∙◌}
 use Rattle.cpe_slice.specs.Registers.{Registers, AllBelow}
-use Rattle.cpe_slice.specs.FunctionCode.{function_of, is_shift}
+use Rattle.cpe_slice.specs.FunctionCode.{is_shift}
 use Rattle.cpe_slice.specs.WordStep.{Inputs, array_step, result_word, link, operand_a, operand_b, mar_after, logic_word, test_word}
 use Rattle.cpe_slice.proofs.Cases.{result_shift, link_shift}
-use Rattle.slice_array.proofs.Rippled.{bits_below_same}
+use Rattle.slice_array.proofs.RippleRun.{bits_below_same}
 use Rattle.slice_array.specs.Whole.{whole, zero_registers, AllSlices, join}
 
 pub array_step_li : (n code k m i ci x y : ℕ) (w : Registers) → is_shift code ≡ false

@@ -1,18 +1,18 @@
 -- A slice below the slices above it: the table on whole words, from the table at the slice and at the rest.
-use Rattle.std.proofs.Common.{ℕ, zero, suc, ◌+◌, ◌-◌, ◌*◌, ◌/◌, ◌%◌, ◌^◌, ◌<◌, ◌≤◌, ◌≡◌, ◌==◌, nat_eq, Bool, true, false, if◌then◌else◌, refl, sym, ap, subst, ◌∙◌, arith, rules, List, [], ◌∷◌, length, get_or, replicate, All, ◌&&◌, length-set, nat_lt, inl, inr}
+use Rattle.std.proofs.Common.{ℕ, zero, suc, ◌+◌, ◌-◌, ◌*◌, ◌/◌, ◌%◌, ◌^◌, ◌<◌, ◌≡◌, ◌==◌, true, false, if◌then◌else◌, refl, sym, ap, subst, ◌∙◌, arith, List, [], ◌∷◌, length, get_or, replicate, All, ◌&&◌, length-set, nat_lt, inl, inr}
 use Rattle.std.proofs.lemmas.Bool.{cases_Bool}
 use Rattle.std.proofs.Math.Nat.{pow-suc}
 use Rattle.std.proofs.lemmas.List.Elements.{All-get_or, All-from_get_or}
 use Rattle.std.proofs.lemmas.Grind.{common_steps}
-use Rattle.cpe_slice.specs.Registers.{Registers, AllBelow, get, set}
-use Rattle.cpe_slice.specs.declared.code.Reg.{Reg}
-use Rattle.cpe_slice.specs.declared.code.Reg.TheVariants.{R, T, Ac}
+use Rattle.cpe_slice.specs.Registers.{Registers, AllBelow, set}
+use Rattle.cpe_slice.specs.declared.register.Reg.{Reg}
+use Rattle.cpe_slice.specs.declared.register.Reg.TheVariants.{R, T, Ac}
 use Rattle.cpe_slice.specs.FunctionCode.{function_of, group_of, register_of, is_shift}
-use Rattle.cpe_slice.specs.WordStep.{Inputs, StepOutcome, source_word, operand_a, operand_b, logic_word, test_word, sum_carry, or_carry, any_bit, result_word, link, mar_after, registers_after, bits_below, array_step}
+use Rattle.cpe_slice.specs.WordStep.{Inputs, operand_a, operand_b, test_word, sum_carry, or_carry, any_bit, result_word, link, mar_after, registers_after, bits_below, array_step}
 use Rattle.cpe_slice.proofs.Cases.{result_sum, result_logic, link_sum, link_logic}
 use Rattle.slice_array.specs.Whole.{join, join_list, whole, zero_registers, AllSlices}
-use Rattle.slice_array.proofs.Digits.{sum_digits_by, sum_carry_by, or_carry_by}
-use Rattle.slice_array.proofs.Joined.{index_join, join_inputs, IsDigits, IsWhole, operand_a_join, operand_b_join, operand_a_below, operand_b_below, logic_join, test_join, test_below, mar_join, put_join, ten_each}
+use Rattle.slice_array.proofs.BaseFour.{sum_digits_by, sum_carry_by, or_carry_by}
+use Rattle.slice_array.proofs.JoinedWords.{index_join, join_inputs, IsDigits, IsWhole, operand_a_join, operand_b_join, operand_a_below, operand_b_below, logic_word_join, test_word_join, test_word_below, mar_after_join, registers_after_join, ten_each}
 
 -- the link of one slice, in numbers
 sum_carry_one : (r s c : ℕ) → r < 4 → s < 4 → sum_carry r s c 1 ≡ (r + s + c) / 4
@@ -36,7 +36,7 @@ pub result_join_logic : (code n : ℕ) (p q : Inputs) (s w : Registers) → IsDi
     → is_shift code ≡ false → nat_lt (function_of code) 4 ≡ false
     → result_word (suc n) code (join_inputs p q) (join s w) ≡ result_word n code q w * 4 + result_word 1 code p s
 result_join_logic code n p q s w d h e f =
-    rw (result_logic (suc n) code (join_inputs p q) (join s w) e f, result_logic n code q w e f, result_logic 1 code p s e f) (logic_join code n p q s w d h)
+    rw (result_logic (suc n) code (join_inputs p q) (join s w) e f, result_logic n code q w e f, result_logic 1 code p s e f) (logic_word_join code n p q s w d h)
 
 -- the link of the lowest slice, and those above it
 pub link_join_sum : (code n j : ℕ) (p q : Inputs) (s w : Registers) → IsDigits p s → IsWhole n q w
@@ -52,9 +52,9 @@ pub link_join_logic : (code n j : ℕ) (p q : Inputs) (s w : Registers) → IsDi
     → is_shift code ≡ false → nat_lt (function_of code) 4 ≡ false → q.ci ≡ link 1 code p s 0
     → link (suc n) code (join_inputs p q) (join s w) (suc j) ≡ link n code q w j
 link_join_logic code n j p q s w d h e f c =
-    let carry : q.ci ≡ any_bit (p.ci + test_word code p s) = c ∙ link_logic 1 code p s 0 e f ∙ or_carry_one (test_word code p s) p.ci (test_below code p s d) in
-    rw (link_logic (suc n) code (join_inputs p q) (join s w) (suc j) e f, link_logic n code q w j e f, test_join code n p q s w d h)
-    (or_carry_by (test_word code q w) (test_word code p s) p.ci q.ci (suc j + 1) (j + 1) (test_below code p s d) carry (omega arith))
+    let carry : q.ci ≡ any_bit (p.ci + test_word code p s) = c ∙ link_logic 1 code p s 0 e f ∙ or_carry_one (test_word code p s) p.ci (test_word_below code p s d) in
+    rw (link_logic (suc n) code (join_inputs p q) (join s w) (suc j) e f, link_logic n code q w j e f, test_word_join code n p q s w d h)
+    (or_carry_by (test_word code q w) (test_word code p s) p.ci q.ci (suc j + 1) (j + 1) (test_word_below code p s d) carry (omega arith))
 
 -- the lowest link is that of the lowest slice
 pub link_zero_sum : (code n : ℕ) (p q : Inputs) (s w : Registers) → IsDigits p s → IsWhole n q w
@@ -73,7 +73,7 @@ pub link_zero_logic : (code n : ℕ) (p q : Inputs) (s w : Registers) → IsDigi
     → link (suc n) code (join_inputs p q) (join s w) 0 ≡ link 1 code p s 0
 unfolding or_carry
 link_zero_logic code n p q s w d h e f =
-    rw (link_logic (suc n) code (join_inputs p q) (join s w) 0 e f, link_logic 1 code p s 0 e f, test_join code n p q s w d h)
+    rw (link_logic (suc n) code (join_inputs p q) (join s w) 0 e f, link_logic 1 code p s 0 e f, test_word_join code n p q s w d h)
     (let u : (test_word code q w * 4 + test_word code p s) % 4 ≡ test_word code p s % 4 = omega arith in rw u)
 
 -- outside the shift, all functions together
@@ -117,8 +117,8 @@ pub registers_join : (code n : ℕ) (p q : Inputs) (s w : Registers) → IsDigit
     → (array_step (suc n) code (join_inputs p q) (join s w)).registers ≡ join (array_step 1 code p s).registers (array_step n code q w).registers
 unfolding array_step
 registers_join code n p q s w d h e c =
-    rw (result_join code n p q s w d h e c, mar_join code n p q s w d h)
-    (ap (λ (o : Registers). record o { mar = mar_after code q w * 4 + mar_after code p s }) (put_join code (result_word 1 code p s) (result_word n code q w) s w (ten_each p s n q w d h)))
+    rw (result_join code n p q s w d h e c, mar_after_join code n p q s w d h)
+    (ap (λ (o : Registers). record o { mar = mar_after code q w * 4 + mar_after code p s }) (registers_after_join code (result_word 1 code p s) (result_word n code q w) s w (ten_each p s n q w d h)))
 
 -- the slices after a step outside the shift, the links, and the carry out of the last slice
 pub record Run : Type 0 where
@@ -229,9 +229,9 @@ set_ten w (R n) v = length-set w.r n v
 set_ten w T v = refl
 set_ten w Ac v = refl
 
-pub eval_ten : (n code : ℕ) (b : Inputs) (w : Registers) → length (array_step n code b w).registers.r ≡ length w.r
+pub array_step_ten : (n code : ℕ) (b : Inputs) (w : Registers) → length (array_step n code b w).registers.r ≡ length w.r
 unfolding array_step registers_after
-eval_ten n code b w =
+array_step_ten n code b w =
     elim (function_of code == 0 && group_of code == 1)
     as (λ g. length (if g then record (set w (register_of code) (result_word n code b w)) { ac = result_word n code b w } else set w (register_of code) (result_word n code b w)).r ≡ length w.r)
     [ true ↦ set_ten w (register_of code) (result_word n code b w) | false ↦ set_ten w (register_of code) (result_word n code b w) ]
@@ -248,7 +248,7 @@ pub run_one : (code : ℕ) (b : Inputs) (s : Registers) → AllBelow 4 s → Bus
 unfolding run
 run_one code b s a h e =
     rw (join_zero s a.ten, digits_only b h) record {
-      registers = join_zero (array_step 1 code b s).registers (eval_ten 1 code b s ∙ a.ten);
+      registers = join_zero (array_step 1 code b s).registers (array_step_ten 1 code b s ∙ a.ten);
       links = ap (λ (x : ℕ). x + 0) (fi_is 1 code b s e) ∙ (one_bit (link 1 code b s)) ∙ sym (links_is 1 code b s);
       carry = refl;
     }

@@ -6,9 +6,9 @@ use Rattle.std.proofs.lemmas.List.Elements.{All-from_get_or, All-get_or}
 use Rattle.std.proofs.Math.Nat.{pow-suc, div-div-eq-div-mul}
 use Rattle.cpe_slice.specs.Registers.{Registers, AllBelow}
 use Rattle.slice_array.specs.Whole.{join, join_list, whole, zero_registers, digit, digit_of, AllSlices}
-use Rattle.slice_array.proofs.Joined.{index_join}
-use Rattle.slice_array.proofs.Rippled.{length_join}
-use Rattle.slice_array.proofs.Through.{two_shift}
+use Rattle.slice_array.proofs.JoinedWords.{index_join}
+use Rattle.slice_array.proofs.RippleRun.{length_join}
+use Rattle.slice_array.proofs.RippleLoop.{two_shift}
 
 map_at : (f : ℕ → ℕ) (xs : List ℕ) (n : ℕ) → n < length xs → get_or (map f xs) n 0 ≡ f (get_or xs n 0)
 map_at f [] n h = absurd (omega arith)

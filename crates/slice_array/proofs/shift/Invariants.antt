@@ -1,6 +1,0 @@
-use Rattle.cpe_slice.specs.WordStep.{bit}
-use Rattle.slice_array.proofs.Downward.{IsDownward}
-use Rattle.slice_array.proofs.shift.Given as goal
-
-abbrev pub invariant-loop-j : goal.invariant-loop-j
-invariant-loop-j l = IsDownward l.f (record { k = l.k; m = l.m; i = l.i; ci = 0; li = bit l.li }) l.initial.slices l.slices l.j l.links l.carry
