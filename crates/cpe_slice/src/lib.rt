@@ -8,6 +8,8 @@ mod function_code;
 mod register;
 mod slice;
 mod step;
+#[cfg(test)]
+mod tests;
 
 pub use function_code::Fn7;
 pub use register::Reg;

@@ -7,6 +7,8 @@
 
 mod array;
 mod regs;
+#[cfg(test)]
+mod tests;
 mod wiring;
 mod with_slices;
 mod words;
