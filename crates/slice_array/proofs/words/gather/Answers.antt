@@ -2,8 +2,7 @@ use Rattle.std.proofs.Common.{ℕ, ◌≡◌, ◌<◌, ◌≤◌, ◌^◌, ◌-�
 use Rattle.std.proofs.Math.Nat.{pow-le-pow_right}
 use Rattle.cpe_slice.specs.Registers.{Registers, AllBelow}
 use Rattle.slice_array.specs.Whole.{whole}
-use Rattle.slice_array.proofs.RippleRun.{whole_below}
-use Rattle.slice_array.proofs.WholeDigits.{all_drop, all_at, below_more_room}
+use Rattle.slice_array.proofs.WholeWords.{whole_below, all_drop, all_at, below_more_room}
 use Rattle.slice_array.proofs.words.gather.Goals as goal
 
 pub joined-regs-requires-clause-regs : goal.joined-regs-requires-clause-regs

@@ -1,7 +1,7 @@
 use Rattle.std.proofs.Common.{◌∙◌, ap, replicate}
 use Rattle.cpe_slice.specs.Registers.{Registers}
 use Rattle.slice_array.specs.Whole.{whole}
-use Rattle.slice_array.proofs.UnusedLines.{whole_zero, all_replicate}
+use Rattle.slice_array.proofs.WholeWords.{whole_zero, all_replicate}
 use Rattle.slice_array.proofs.array.Array.zero.Goals as goal
 
 pub invariant_of-result : goal.invariant_of-result
