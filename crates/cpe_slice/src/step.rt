@@ -43,6 +43,8 @@ impl Slice {
         requires shift_mask { IsTrue (is_shift f) → k ≡ 0 }
         ensures slice { result.slice ≡ (array_step 1 f (inputs_of k m i ci li) self.now).registers }
         ensures below { AllBelow 4 result.slice }
+
+        // FI of one slice is that slice's link.
         ensures co { bit result.co ≡ (if is_shift f then 0 else (array_step 1 f (inputs_of k m i ci li) self.now).fi) }
         ensures ro { bit result.ro ≡ (if is_shift f then (array_step 1 f (inputs_of k m i ci li) self.now).fi else 0) }
     {

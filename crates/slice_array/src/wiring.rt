@@ -31,9 +31,12 @@ pub(crate) fn step_slices(
     requires digits { AllSlices slices.old }
     requires buses { (k < 4 ^ length slices.old) × (m < 4 ^ length slices.old) × (i < 4 ^ length slices.old) }
     requires shift_mask { IsTrue (is_shift f) → k ≡ 0 }
-    ensures registers { whole slices.new ≡ (array_step (length slices.old) f (inputs_of k m i fo fo) (whole slices.old)).registers }
-    ensures links { result.links ≡ (array_step (length slices.old) f (inputs_of k m i fo fo) (whole slices.old)).links }
-    ensures fi { bit result.fi ≡ (array_step (length slices.old) f (inputs_of k m i fo fo) (whole slices.old)).fi }
+    ensures registers { whole slices.new
+        ≡ (array_step (length slices.old) f (inputs_of k m i fo fo) (whole slices.old)).registers }
+    ensures links { result.links
+        ≡ (array_step (length slices.old) f (inputs_of k m i fo fo) (whole slices.old)).links }
+    ensures fi { bit result.fi
+        ≡ (array_step (length slices.old) f (inputs_of k m i fo fo) (whole slices.old)).fi }
     ensures digits { AllSlices slices.new }
 {
     if f.is_shift() {
@@ -50,9 +53,12 @@ fn ripple(slices: &mut [Slice], f: Fn7, k: u32, m: u32, i: u32, ci: bool) -> Arr
     requires digits { AllSlices slices.old }
     requires buses { (k < 4 ^ length slices.old) × (m < 4 ^ length slices.old) × (i < 4 ^ length slices.old) }
     requires no_shift { is_shift f ≡ false }
-    ensures registers { whole slices.new ≡ (array_step (length slices.old) f (inputs_of k m i ci false) (whole slices.old)).registers }
-    ensures links { result.links ≡ (array_step (length slices.old) f (inputs_of k m i ci false) (whole slices.old)).links }
-    ensures fi { bit result.fi ≡ (array_step (length slices.old) f (inputs_of k m i ci false) (whole slices.old)).fi }
+    ensures registers { whole slices.new
+        ≡ (array_step (length slices.old) f (inputs_of k m i ci false) (whole slices.old)).registers }
+    ensures links { result.links
+        ≡ (array_step (length slices.old) f (inputs_of k m i ci false) (whole slices.old)).links }
+    ensures fi { bit result.fi
+        ≡ (array_step (length slices.old) f (inputs_of k m i ci false) (whole slices.old)).fi }
     ensures digits { AllSlices slices.new }
 {
     let mut carry = ci;
@@ -82,9 +88,12 @@ fn shift(slices: &mut [Slice], f: Fn7, k: u32, m: u32, i: u32, li: bool) -> Arra
     requires buses { (k < 4 ^ length slices.old) × (m < 4 ^ length slices.old) × (i < 4 ^ length slices.old) }
     requires no_mask { k ≡ 0 }
     requires is_shift { is_shift f ≡ true }
-    ensures registers { whole slices.new ≡ (array_step (length slices.old) f (inputs_of k m i false li) (whole slices.old)).registers }
-    ensures links { result.links ≡ (array_step (length slices.old) f (inputs_of k m i false li) (whole slices.old)).links }
-    ensures fi { bit result.fi ≡ (array_step (length slices.old) f (inputs_of k m i false li) (whole slices.old)).fi }
+    ensures registers { whole slices.new
+        ≡ (array_step (length slices.old) f (inputs_of k m i false li) (whole slices.old)).registers }
+    ensures links { result.links
+        ≡ (array_step (length slices.old) f (inputs_of k m i false li) (whole slices.old)).links }
+    ensures fi { bit result.fi
+        ≡ (array_step (length slices.old) f (inputs_of k m i false li) (whole slices.old)).fi }
     ensures digits { AllSlices slices.new }
 {
     let mut low_bit = li;
