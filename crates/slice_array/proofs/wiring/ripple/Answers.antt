@@ -5,6 +5,7 @@ use Rattle.slice_array.proofs.RippleLoop.{inputs_from, ripple_next, ripple_done}
 use Rattle.slice_array.proofs.BaseFour.{two_shift}
 use Rattle.slice_array.proofs.wiring.ripple.Goals as goal
 
+-- the two bits of each bus that the code reads are the digits that the slice takes in
 digits_from : (k m i li j : ℕ) (c d : _) → (record { k = bit_and (k / 2 ^ (2 * j)) 3; m = bit_and (m / 2 ^ (2 * j)) 3; i = bit_and (i / 2 ^ (2 * j)) 3; ci = bit c; li = li })
     ≡ digit_inputs (inputs_from j (record { k = k; m = m; i = i; ci = bit d; li = li }) c)
 digits_from k m i li j c d = rw (two_shift k j, two_shift m j, two_shift i j)

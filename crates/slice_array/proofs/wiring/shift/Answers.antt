@@ -6,6 +6,7 @@ use Rattle.slice_array.proofs.ShiftRun.{shift_inputs}
 use Rattle.slice_array.proofs.ShiftLoop.{IsDownward, inputs_above, shift_start, shift_next, shift_done}
 use Rattle.slice_array.proofs.wiring.shift.Goals as goal
 
+-- the two bits of each bus that the code reads are the digits that the slice takes in
 digits_from : (k m i li j carry : ℕ) → k ≡ 0 → (record { k = 0; m = bit_and (m / 2 ^ (2 * j)) 3; i = bit_and (i / 2 ^ (2 * j)) 3; ci = 0; li = carry })
     ≡ shift_inputs (inputs_above j (record { k = k; m = m; i = i; ci = 0; li = li })) carry
 digits_from k m i li j carry e =
@@ -17,7 +18,6 @@ loop-j-init c = shift_start c.args.f _ c.args.slices.now c.args.li refl c.requir
 
 pub loop-j-preserved : goal.loop-j-preserved
 loop-j-preserved c =
-    let i : ℕ = c.loop-j.j - 1 in
     let sixteen : c.loop-j.j - 1 < 16 = search rules in
     let within : c.loop-j.j - 1 < length c.loop-j.slices = search rules in
     let within_before : c.loop-j.j - 1 < length c.args.slices.now = search rules in
