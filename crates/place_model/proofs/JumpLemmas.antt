@@ -1,16 +1,16 @@
 -- Legality of a jump, and the jumps that reach the labels.
-use Rattle.std.proofs.Common.{ℕ, ◌≡◌, ◌+◌, ◌<◌, ◌≤◌, ◌⊎◌, true, zero, suc, List, [], ◌∷◌, length, map, Option, Some, None, is_some, slice_get, refl, sym, ap, ◌∙◌, subst, inl, inr, arith}
+use Rattle.std.proofs.Common.{ℕ, ◌≡◌, ◌<◌, ◌≤◌, ◌⊎◌, true, zero, suc, List, [], ◌∷◌, length, Option, Some, None, is_some, slice_get, refl, sym, ap, ◌∙◌, subst, inl, inr, arith}
 use Rattle.std.specs.List.{list_any}
 use Rattle.std.specs.Option.{option_map}
 use Rattle.std.proofs.lemmas.Bool.{cases_lt}
-use Rattle.std.proofs.lemmas.Option.{slice_get-map, slice_get_past}
+use Rattle.std.proofs.lemmas.Option.{slice_get-map}
 use Rattle.mcu_jumps.specs.Position.{Position}
 use Rattle.mcu_jumps.specs.JumpWord.{JumpWord, ac_of}
 use Rattle.mcu_jumps.specs.NextAddress.{lands}
 use Rattle.mcu_jumps.specs.Landing.{outcomes_of, Serves}
 use Rattle.mcu_jumps.specs.OneJump.{OneJumpToLabel}
 use Rattle.flow_graph.specs.declared.instructions.Instr.{Instr}
-use Rattle.flow_graph.specs.Targets.{HasLabel, AreTargets}
+use Rattle.flow_graph.specs.Targets.{AreTargets}
 use Rattle.flow_graph.specs.Valid.{IsInstr}
 use Rattle.place_model.specs.Cells.{IsAt, LandsTrapsFree, cell_of, cells_of}
 use Rattle.place_model.specs.Legal.{MeetsLegality, IsJumpOf}

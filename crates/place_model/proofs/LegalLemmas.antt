@@ -1,13 +1,11 @@
 -- Legality from what each label's test told.
-use Rattle.std.proofs.Common.{ℕ, ◌≡◌, ◌<◌, ◌≤◌, List, length, Some, slice_get, refl, ap, ◌∙◌, arith}
+use Rattle.std.proofs.Common.{ℕ, ◌≡◌, ◌<◌, List, length, Some, slice_get, refl, ap, ◌∙◌, arith}
 use Rattle.std.proofs.lemmas.Option.{slice_get_within}
 use Rattle.mcu_jumps.specs.Position.{Position}
 use Rattle.flow_graph.specs.declared.instructions.Instr.{Instr}
 use Rattle.flow_graph.specs.Graph.{Graph}
-use Rattle.place_model.specs.Legal.{IsLegal, KeepsPins, origin}
-use Rattle.place_model.specs.Faults.{StandsAt, IsRight, IsWrong, IsFirstFault, IsFaultlessBelow}
-use Rattle.place_model.specs.declared.faults.MapKind.{MapKind}
-use Rattle.place_model.specs.declared.faults.MapKind.TheVariants.{Unpinned, SameCell, RowBound, StartCell, NoJump}
+use Rattle.place_model.specs.Legal.{IsLegal, KeepsPins}
+use Rattle.place_model.specs.Faults.{IsRight, IsFaultlessBelow}
 use Rattle.place_model.proofs.JumpLemmas.{cell_there}
 
 -- what the tests told of the instruction at a cell

@@ -7,11 +7,7 @@ use Rattle.flow_graph.specs.declared.pinning.Pin.{Pin}
 use Rattle.flow_graph.specs.Graph.{Graph}
 use Rattle.flow_graph.specs.Valid.{IsProgram}
 use Rattle.place_model.specs.Legal.{KeepsPins}
-use Rattle.place_model.specs.Faults.{IsFirstFault}
-use Rattle.place_model.specs.Pinned.{IsPinnedTo, ArePinnedCells, IsRefusal}
-use Rattle.place_model.specs.declared.faults.MapKind.{MapKind}
-use Rattle.place_model.specs.declared.faults.MapKind.TheVariants.{Unpinned, SameCell, RowBound, StartCell, NoJump}
-use Rattle.place_model.specs.declared.faults.MapFault.TheVariants.{At}
+use Rattle.place_model.specs.Pinned.{IsPinnedTo, ArePinnedCells}
 use Rattle.place_model.proofs.JumpLemmas.{cell_there}
 
 -- the cells of the pins keep the pins

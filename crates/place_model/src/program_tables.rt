@@ -48,10 +48,9 @@ fn are_instrs(instrs: &[Instr]) -> bool
     ensures { IsTrue result → (label : ℕ) → label < length instrs.now → (instr : Instr) → slice_get instrs.now label ≡ Some instr → IsInstr (length instrs.now) instr }
 {
     for label in 0..instrs.len() {
-        if is_instr(instrs.len(), &instrs[label]) {
-            continue;
+        if !is_instr(instrs.len(), &instrs[label]) {
+            return false;
         }
-        return false;
     }
     true
 }
@@ -115,16 +114,19 @@ fn fits_matrix(rows: u8, start: u16, count: usize) -> bool
 fn is_program(rows: u8, start: u16, pins: &[Pin], instrs: &[Instr]) -> bool
     ensures { IsTrue result → IsProgram rows start pins.now instrs.now }
 {
-    if fits_matrix(rows, start, instrs.len()) {
-        if are_instrs(instrs) {
-            if names_differ(instrs) {
-                if pins_in_range(instrs.len(), pins) {
-                    return pinned_once(pins);
-                }
-            }
-        }
+    if !fits_matrix(rows, start, instrs.len()) {
+        return false;
     }
-    false
+    if !are_instrs(instrs) {
+        return false;
+    }
+    if !names_differ(instrs) {
+        return false;
+    }
+    if !pins_in_range(instrs.len(), pins) {
+        return false;
+    }
+    pinned_once(pins)
 }
 
 /// The program of these lines and pins that starts at the first line. The first line of the source

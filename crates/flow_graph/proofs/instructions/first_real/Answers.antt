@@ -1,6 +1,5 @@
 -- The targets have a label, so that there is a first one.
 use Rattle.std.proofs.Common.{◌≡◌, None, is_some, position}
-use Rattle.std.proofs.lemmas.Grind.{common_steps}
 use Rattle.flow_graph.proofs.TargetLemmas.{HasLabel-position}
 use Rattle.flow_graph.proofs.instructions.first_real.Goals as goal
 

@@ -1,5 +1,4 @@
 -- A legal placement has a jump at each label, and a cell for each.
-use Rattle.std.proofs.Common.{length}
 use Rattle.place_model.proofs.jumping.jump_of.Goals as goal
 
 pub least_jump-requires-clause-instr : goal.least_jump-requires-clause-instr

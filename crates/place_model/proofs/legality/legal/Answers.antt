@@ -1,5 +1,4 @@
 -- A placement is legal exactly where the tests of the pins and of each label told so.
-use Rattle.std.proofs.Common.{◌≡◌}
 use Rattle.flow_graph.specs.Graph.{graph_of}
 use Rattle.place_model.proofs.LegalLemmas.{IsLegal-from_faultless}
 use Rattle.place_model.proofs.legality.legal.Goals as goal

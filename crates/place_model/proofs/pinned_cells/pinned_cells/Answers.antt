@@ -1,8 +1,8 @@
 -- Each label gets the cell of its pin.
-use Rattle.std.proofs.Common.{◌≡◌, ◌+◌, List, [], ◌∷◌, ◌++◌, length, refl, ◌∙◌, arith}
+use Rattle.std.proofs.Common.{◌≡◌, [], ◌∷◌, ◌++◌, length, refl, ◌∙◌, arith}
 use Rattle.std.proofs.lemmas.Grind.{common_steps}
 use Rattle.flow_graph.specs.Graph.{graph_of}
-use Rattle.place_model.proofs.PinLemmas.{ArePinnedBelow, ArePinnedBelow-push, ArePinnedCells-from_below}
+use Rattle.place_model.proofs.PinLemmas.{ArePinnedBelow-push, ArePinnedCells-from_below}
 use Rattle.place_model.proofs.pinned_cells.pinned_cells.Goals as goal
 
 pub returns-in-None-clause-err : goal.returns-in-None-clause-err

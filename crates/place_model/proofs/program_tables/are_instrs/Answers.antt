@@ -1,7 +1,6 @@
 -- The instruction at hand is right, and so are those before it.
 use Rattle.std.proofs.Common.{ℕ, ◌≡◌, Some, length, slice_get, ◌∙◌, subst, below_more, arith}
-use Rattle.std.proofs.lemmas.Grind.{common_steps}
-use Rattle.std.proofs.lemmas.Option.{get_or_from_slice_get, slice_get_within}
+use Rattle.std.proofs.lemmas.Option.{get_or_from_slice_get}
 use Rattle.flow_graph.specs.declared.instructions.Instr.{Instr}
 use Rattle.flow_graph.specs.Valid.{IsInstr}
 use Rattle.place_model.proofs.program_tables.are_instrs.Goals as goal
@@ -13,7 +12,7 @@ loop-label-preserved c =
     let here : P c.loop-label.label = λ instr at.
     (let same : c.index-instrs-label.result ≡ instr = c.index-instrs-label.is ∙ get_or_from_slice_get instrs c.loop-label.label instr c.index-instrs-label.result at in
     let Q : Instr → Type 0 = λ x. IsInstr (length instrs) x in
-    subst Q same (c.is_instr.ensures c.if-is_instr.true)) in
+    subst Q same (c.is_instr.ensures c.if-not-is_instr.false)) in
     below_more P c.loop-label.label c.loop-label.invariant here
 
 pub returns : goal.returns
