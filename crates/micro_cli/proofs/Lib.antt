@@ -1,0 +1,5 @@
+pub mod FixedLists
+pub mod Elements
+pub mod TextLemmas
+pub mod PlainLemmas
+pub mod EndingLemmas

@@ -1,0 +1,10 @@
+pub mod Texts
+pub mod PlainWords
+pub mod PlainForm
+pub mod PlainParts
+pub mod Command
+pub mod Request
+pub mod Reply
+pub mod Status
+pub mod Answer
+pub mod Ending

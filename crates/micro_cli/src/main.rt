@@ -1,0 +1,34 @@
+//! Buravelo's command line: microprograms for Intel's 3001 and 3002, placed with certainty.
+//!
+//! `top_call::top` is the whole program over a shelf of files and a sink of bytes, and its contract is what the
+//! program promises; `main` hands it the words, the files of the system and standard output.
+#![tactic(auto)]
+
+mod command_words;
+mod endings;
+mod map_command;
+mod plain_form;
+mod plain_words;
+mod replies;
+mod status;
+mod top_call;
+
+use io_base::{FileShelf, StdSink};
+use std::env;
+use std::process::ExitCode;
+use top_call::top;
+
+fn main(rt: HostRuntime) -> ExitCode {
+    let alloc = rt.alloc();
+    let words = match env::args(&rt) {
+        Ok(args) => match args.skip(1).collect(alloc) {
+            Ok(words) => words,
+            Err(_) => return ExitCode::from(status::Status::NoMemory.number()),
+        },
+        Err(_) => Vec::new(alloc),
+    };
+    let mut shelf = FileShelf::new(&rt);
+    let mut out = StdSink::new(&rt);
+    let status = top(alloc, words.as_slice(), &mut shelf, &mut out);
+    ExitCode::from(status.number())
+}

@@ -1,0 +1,30 @@
+//! The whole program as one call, over any shelf and any sink.
+ghost use Rattle.std.specs.Prelude.{◌≡◌, map, string_bytes};
+ghost use Rattle.micro_cli.specs.Command.{command_of};
+ghost use Rattle.micro_cli.specs.Answer.{Answer};
+ghost use Rattle.micro_cli.specs.Ending.{Ends};
+
+use crate::command_words::{Request, request_of};
+use crate::endings::say;
+use crate::map_command::map_command;
+use crate::status::Status;
+use io_base::{Shelf, Sink};
+use std::alloc::Global;
+
+/// Answers the words of the command line: reads files from the shelf and writes the answer's text to `out`.
+///
+/// Where the sink fails, the status is that of a sink fault and a prefix of an answer's text was written. Want of
+/// memory may be answered at any command.
+pub fn top<S: Shelf, K: Sink>(alloc: Global, words: &[String], shelf: &mut S, out: &mut K) -> Status
+    ensures ends { Ends (Answer (command_of (map string_bytes words.now)) (S.state shelf.old) (S.state shelf.new))
+        (K.state out.old) (K.state out.new) result }
+    ensures no_file_changes { (S.state shelf.new).file ≡ (S.state shelf.old).file }
+{
+    match request_of(words) {
+        Request::Map { src } => map_command(alloc, shelf, out, src),
+        Request::Unknown => say(out, Status::Words, b"refused words\n"),
+    }
+}
+
+#[cfg(test)]
+mod tests;
