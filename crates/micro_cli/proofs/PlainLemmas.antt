@@ -6,11 +6,12 @@ use Rattle.std.proofs.lemmas.List.{append_cancel_right, length-map}
 use Rattle.std.proofs.lemmas.Grind.{common_steps}
 use Rattle.std.proofs.lemmas.Bool.Decides.{nat_tests}
 use Rattle.mcu_jumps.specs.Landing.{outcomes_of}
+use Rattle.mcu_jumps.specs.declared.codes.Kind.{Kind}
 use Rattle.flow_graph.specs.Targets.{HasLabel}
 use Rattle.flow_graph.specs.declared.instructions.Instr.{Instr}
 use Rattle.flow_graph.specs.declared.pinning.Pin.{Pin}
 use Rattle.flow_graph.specs.Graph.{Graph}
-use Rattle.micro_cli.specs.PlainWords.{words_of, is_name, number_of, start_words, pin_words, goto_words}
+use Rattle.micro_cli.specs.PlainWords.{words_of, is_name, number_of, start_words, pin_words, flow_words, kind_of}
 use Rattle.micro_cli.specs.PlainForm.{HasWords, names_of, NamesStart, IsPinOf, PinsAt, StatesAt, AreNames, EachPinned, OnlyAtOrigin, ArePlainLines}
 use Rattle.micro_cli.specs.PlainParts.{HeadsPlainLines, ArePins, AreInstrs, IsApartFrom}
 use Rattle.micro_cli.proofs.Elements.{element_at, element_of_pushed, same_elements}
@@ -22,14 +23,10 @@ same_words lines place ws vs h k =
     sym h.2 ∙ ap words_of line ∙ k.2
 
 -- the words of an instruction fix its label
-pub same_label : (a b s t : List ℕ) → goto_words a s ≡ goto_words b t → a ≡ b
-same_label a b s t e =
+pub same_label : (a b u v s t : List ℕ) → flow_words a u s ≡ flow_words b v t → a ≡ b
+same_label a b u v s t e =
     let heads : a ++ codes ":" ≡ b ++ codes ":" = cc in
     append_cancel_right a b (codes ":") heads
-
--- the words of an instruction fix its target
-pub same_target : (a b s t : List ℕ) → goto_words a s ≡ goto_words b t → s ≡ t
-same_target a b s t e = cc
 
 -- the name of an instruction at a label
 pub name_at : (instrs : List Instr) (label : ℕ) (instr : Instr) → slice_get instrs label ≡ Some instr → slice_get (names_of instrs) label ≡ Some instr.name
@@ -58,9 +55,9 @@ same_names lines count names g size number are plain =
     let instr = instr_at g.instrs label a at_a in
     let states = plain.instrs label instr.0 instr.1 in
     let line = are.lines_are label b at_b in
-    let P : ℕ → Type 0 = λ n. HasWords lines (2 + n + label) (goto_words instr.0.name states.name) in
+    let P : ℕ → Type 0 = λ n. HasWords lines (2 + n + label) (flow_words instr.0.name states.statement states.name) in
     let here = subst P counts states.words in
-    sym instr.2 ∙ same_label instr.0.name b states.name line.0 (same_words lines (2 + count + label) _ _ here line.1))
+    sym instr.2 ∙ same_label instr.0.name b states.statement line.0 states.name line.1 (same_words lines (2 + count + label) _ _ here line.2))
 
 -- the line of each instruction states it
 pub stated_at : (lines : List (List ℕ)) (count : ℕ) (g : Graph) (label : ℕ) → length lines ≡ 2 * count + 3 → ArePlainLines lines g → label < count →
@@ -72,16 +69,16 @@ stated_at lines count g label size plain below =
     (instr.0, instr.1, subst P counts (plain.instrs label instr.0 instr.1))
 
 -- one more name of the next line
-pub pushed_names : (lines : List (List ℕ)) (count : ℕ) (names : List (List ℕ)) (name target : List ℕ) → AreNames lines count names →
-    HasWords lines (2 + count + length names) (goto_words name target) → IsTrue (is_name name) → ((i : ℕ) → slice_get names i ≢ Some name) →
+pub pushed_names : (lines : List (List ℕ)) (count : ℕ) (names : List (List ℕ)) (name statement target : List ℕ) → AreNames lines count names →
+    HasWords lines (2 + count + length names) (flow_words name statement target) → IsTrue (is_name name) → ((i : ℕ) → slice_get names i ≢ Some name) →
     AreNames lines count (names ++ name ∷ [])
-pushed_names lines count names name target are words named fresh = record {
+pushed_names lines count names name statement target are words named fresh = record {
   lines_are = λ label other at.
       elim (element_of_pushed names name other label at) [
         | inl old ↦ are.lines_are label other old.1
         | inr new ↦
-            let P : ℕ → List ℕ → Type 0 = λ n x. HasWords lines (2 + count + n) (goto_words x target) in
-            (target, subst (λ (n : ℕ). P n other) (sym new.0) (subst (P (length names)) (sym new.1) words))
+            let P : ℕ → List ℕ → Type 0 = λ n x. HasWords lines (2 + count + n) (flow_words x statement target) in
+            (statement, target, subst (λ (n : ℕ). P n other) (sym new.0) (subst (P (length names)) (sym new.1) words))
       ];
   named = λ label other at.
       elim (element_of_pushed names name other label at) [
@@ -216,7 +213,11 @@ name_size : (name : List ℕ) → IsTrue (is_name name) → (0 < length name) ×
 name_size [] named = absurd (let no : ⊥ = grind (arith, common_steps, named) in no)
 name_size (b ∷ rest) named = (omega arith, grind (arith, nat_tests, named))
 
--- the one target of a `goto` is in range
+-- the statements of the plain form have one outcome
+one_outcome : (statement : List ℕ) (kind : Kind) → kind_of statement ≡ Some kind → outcomes_of kind ≡ 1
+one_outcome statement kind is = grind (arith, common_steps)
+
+-- the one target of a statement is in range
 one_target : (names : List (List ℕ)) (count t : ℕ) (name : List ℕ) (targets : List (Option ℕ)) → count ≡ length names →
     slice_get names t ≡ Some name → targets ≡ Some t ∷ [] → (outcome label : ℕ) → slice_get targets outcome ≡ Some (Some label) → label < count
 one_target names count t name targets size found are zero label at =
@@ -249,7 +250,7 @@ plain_program lines names start pins instrs heads are starts pin_count are_pins 
             record {
               name_not_empty = sizes.0;
               name_size = sizes.1;
-              target_for_each_outcome = ap length states.targets_are ∙ sym (ap outcomes_of states.kind_is);
+              target_for_each_outcome = ap length states.targets_are ∙ sym (one_outcome states.statement instr.kind states.kind_is);
               targets_in_range = λ outcome target found.
                   one_target names (length instrs) states.target states.name instr.targets count states.target_is states.targets_are outcome target found;
               some_label = (let H : List (Option ℕ) → Type 0 = λ ts. HasLabel ts in subst H (sym states.targets_are) (search rules));

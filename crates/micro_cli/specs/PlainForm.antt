@@ -1,13 +1,12 @@
 -- A source in the plain form (this project's own choice): the lines `slices 1` and `start LABEL`, then a pin for each
--- instruction, then the instructions, each a NOP on R0 with a `goto`; each line ends with a line feed.
+-- instruction, then the instructions, each a NOP on R0 with a `goto` or a `strobe`; each line ends with a line feed.
 use Rattle.std.specs.Prelude.{ℕ, ◌≡◌, ◌+◌, ◌*◌, ◌<◌, ◌≤◌, List, [], ◌∷◌, length, Option, Some, codes, IsTrue, map, slice_get}
 use Rattle.mcu_jumps.specs.Position.{Position, IsCell}
-use Rattle.mcu_jumps.specs.declared.codes.Kind.TheVariants.{Goto}
 use Rattle.flow_graph.specs.declared.instructions.Instr.{Instr}
 use Rattle.flow_graph.specs.declared.pinning.Pin.{Pin}
 use Rattle.flow_graph.specs.Graph.{Graph}
 use Rattle.flow_graph.specs.Valid.{IsProgram}
-use Rattle.micro_cli.specs.PlainWords.{lines_of, words_of, is_name, number_of, start_words, pin_words, goto_words}
+use Rattle.micro_cli.specs.PlainWords.{lines_of, words_of, is_name, number_of, start_words, pin_words, flow_words, kind_of}
 
 -- the names of instructions, in their order
 abbrev pub names_of : List Instr → List (List ℕ)
@@ -40,12 +39,13 @@ pub record PinsAt (lines names : List (List ℕ)) (place : ℕ) (pin : Pin) : Ty
 
 -- the line at a place is that of an instruction
 pub record StatesAt (lines names : List (List ℕ)) (place : ℕ) (instr : Instr) : Type 0 where
+  pub statement : List ℕ
   pub name : List ℕ
   pub target : ℕ
-  pub words : HasWords lines place (goto_words instr.name name)
+  pub words : HasWords lines place (flow_words instr.name statement name)
   pub target_is : slice_get names target ≡ Some name
   pub targets_are : instr.targets ≡ Some target ∷ []
-  pub kind_is : instr.kind ≡ Goto
+  pub kind_is : kind_of statement ≡ Some instr.kind
   pub line_is : instr.line ≡ place + 1
   pub named : IsTrue (is_name instr.name)
 
@@ -94,6 +94,6 @@ IsNotPlain bytes = AreNoPlainLines (lines_of bytes)
 -- these are the names of the instructions' lines, as many as count, and they differ
 pub record AreNames (lines : List (List ℕ)) (count : ℕ) (names : List (List ℕ)) : Type 0 where
   pub lines_are : (label : ℕ) (name : List ℕ) → slice_get names label ≡ Some name
-      → (target : List ℕ) × HasWords lines (2 + count + label) (goto_words name target)
+      → (statement : List ℕ) × (target : List ℕ) × HasWords lines (2 + count + label) (flow_words name statement target)
   pub named : (label : ℕ) (name : List ℕ) → slice_get names label ≡ Some name → IsTrue (is_name name)
   pub differ : (i j : ℕ) (name : List ℕ) → slice_get names i ≡ Some name → slice_get names j ≡ Some name → i ≡ j

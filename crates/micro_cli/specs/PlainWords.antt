@@ -1,6 +1,9 @@
 -- Lines and words of a source in the plain form (this project's own choice).
 use Rattle.std.specs.Prelude.{ℕ, ◌≡◌, ◌+◌, ◌-◌, ◌*◌, List, [], ◌∷◌, ◌++◌, length, Option, None, Some, codes, Bool, false, not, ◌&&◌, ◌||◌, ◌==◌, nat_le, if◌then◌else◌}
 use Rattle.std.specs.List.{list_all, slice_split}
+use Rattle.std.specs.Str.{bytes_eq}
+use Rattle.mcu_jumps.specs.declared.codes.Kind.{Kind}
+use Rattle.mcu_jumps.specs.declared.codes.Kind.TheVariants.{Goto, Strobe}
 
 -- what stands before, between and after the line feeds of a text
 abbrev pub lines_of : List ℕ → List (List ℕ)
@@ -41,6 +44,11 @@ start_words label = codes "start" ∷ label ∷ []
 abbrev pub pin_words : List ℕ → List ℕ → List ℕ → List (List ℕ)
 pin_words label row col = codes "pin" ∷ label ∷ row ∷ col ∷ []
 
--- the words of `LABEL: NOP R0 | goto TARGET`
-abbrev pub goto_words : List ℕ → List ℕ → List (List ℕ)
-goto_words label target = (label ++ codes ":") ∷ codes "NOP" ∷ codes "R0" ∷ codes "|" ∷ codes "goto" ∷ target ∷ []
+-- the words of `LABEL: NOP R0 | STATEMENT TARGET`
+abbrev pub flow_words : List ℕ → List ℕ → List ℕ → List (List ℕ)
+flow_words label statement target = (label ++ codes ":") ∷ codes "NOP" ∷ codes "R0" ∷ codes "|" ∷ statement ∷ target ∷ []
+
+-- the flow statements of the plain form
+abbrev pub kind_of : List ℕ → Option Kind
+kind_of statement =
+    if bytes_eq statement (codes "goto") then Some Goto else (if bytes_eq statement (codes "strobe") then Some Strobe else None)

@@ -6,9 +6,10 @@ ghost use Rattle.flow_graph.specs.Graph.{graph_of};
 ghost use Rattle.micro_cli.specs.PlainForm.{HasWords, names_of, NamesStart, IsPinOf, PinsAt, StatesAt, AreNames, ArePinsApart, EachPinned, OnlyAtOrigin, ArePlainLines, AreNoPlainLines, IsPlainSource, IsNotPlain};
 ghost use Rattle.micro_cli.specs.Texts.{texts};
 ghost use Rattle.micro_cli.specs.PlainParts.{HeadsPlainLines, ArePins, AreInstrs, IsApartFrom};
-ghost use Rattle.mcu_jumps.specs.declared.codes.Kind.TheVariants.{Goto};
 
-use crate::plain_words::{PinLine, flow_line, is_name, number_of, pieces_of, pin_line, start_line};
+use crate::plain_words::{
+    PinLine, flow_line, is_name, kind_of, number_of, pieces_of, pin_line, start_line,
+};
 use flow_graph::{Instr, Instrs, Name, Pin, Pins, Program, Targets};
 use mcu_jumps::{Cell, Kind};
 use std::alloc::{AllocError, Global};
@@ -158,16 +159,22 @@ fn pins_of(alloc: Global, lines: &[&[u8]], names: &[&[u8]]) -> Result<Option<Vec
     Ok(Some(pins))
 }
 
-// A `goto` of this name and target, in this line of the source.
-fn goto_instr(alloc: Global, name: &[u8], line: u32, target: u16) -> Result<Instr, AllocError>
-    ensures { IfOk result (λ instr. instr ≡ record { name = name.now; line = line; kind = Goto; targets = Some target ∷ [] }) }
+// An instruction of this name, kind and target, in this line of the source.
+fn stated_instr(
+    alloc: Global,
+    name: &[u8],
+    line: u32,
+    kind: Kind,
+    target: u16,
+) -> Result<Instr, AllocError>
+    ensures { IfOk result (λ instr. instr ≡ record { name = name.now; line = line; kind = kind; targets = Some target ∷ [] }) }
 {
     let mut targets = Vec::new(alloc);
     targets.push(Some(target))?;
     Ok(Instr {
         name: Name::of(Vec::from_slice(alloc, name)?),
         line,
-        kind: Kind::Goto,
+        kind,
         targets: Targets::of(targets),
     })
 }
@@ -190,10 +197,13 @@ fn instrs_of(
         let Some(line) = flow_line(&words) else {
             return Ok(None);
         };
+        let Some(kind) = kind_of(line.statement) else {
+            return Ok(None);
+        };
         let Some(target) = label_of(names, line.target) else {
             return Ok(None);
         };
-        instrs.push(goto_instr(alloc, line.label, place as u32 + 1, target)?)?;
+        instrs.push(stated_instr(alloc, line.label, place as u32 + 1, kind, target)?)?;
     }
     Ok(Some(instrs))
 }

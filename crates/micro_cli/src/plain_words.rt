@@ -1,9 +1,10 @@
 //! Lines and words of a source in the plain form: cut at line feeds and at spaces, and compared as they stand.
 ghost use Rattle.std.specs.Prelude.{◌≡◌, ◌++◌, ◌==◌, ◌∷◌, [], IfOk, MatchOption, map, List, ℕ, codes, length};
 ghost use Rattle.std.specs.List.{slice_split, list_all};
-ghost use Rattle.micro_cli.specs.PlainWords.{is_name, is_name_byte, number_of, start_words, pin_words, goto_words, starts_as_name};
+ghost use Rattle.micro_cli.specs.PlainWords.{is_name, is_name_byte, number_of, start_words, pin_words, flow_words, kind_of, starts_as_name};
 ghost use Rattle.micro_cli.specs.Texts.{texts};
 
+use mcu_jumps::Kind;
 use std::alloc::{AllocError, Global};
 
 /// What stands before, between and after the separators.
@@ -48,6 +49,19 @@ pub fn number_of(text: &[u8]) -> Option<u8>
     }
 }
 
+/// The kind of a flow statement of the plain form.
+pub fn kind_of(statement: &[u8]) -> Option<Kind>
+    ensures { result ≡ kind_of statement.now }
+{
+    if statement == b"goto".as_slice() {
+        Some(Kind::Goto)
+    } else if statement == b"strobe".as_slice() {
+        Some(Kind::Strobe)
+    } else {
+        None
+    }
+}
+
 /// The label of `start LABEL`.
 pub fn start_line<'a>(words: &[&'a [u8]]) -> Option<&'a [u8]>
     ensures { MatchOption result
@@ -84,28 +98,32 @@ pub fn pin_line<'a>(words: &[&'a [u8]]) -> Option<PinLine<'a>>
     }
 }
 
-/// The words of `LABEL: NOP R0 | goto TARGET` that stand for something.
+/// The words of `LABEL: NOP R0 | STATEMENT TARGET` that stand for something.
 #[derive(Clone, Copy)]
 pub struct FlowLine<'a> {
     pub label: &'a [u8],
+    pub statement: &'a [u8],
     pub target: &'a [u8],
 }
 
 /// The words as those of an instruction's line.
 pub fn flow_line<'a>(words: &[&'a [u8]]) -> Option<FlowLine<'a>>
     ensures { MatchOption result
-        ((label target : List ℕ) → texts words.now ≡ goto_words label target → ⊥)
-        (λ line. texts words.now ≡ goto_words line.label.now line.target.now) }
+        ((label statement target : List ℕ) → texts words.now ≡ flow_words label statement target → ⊥)
+        (λ line. texts words.now ≡ flow_words line.label.now line.statement.now line.target.now) }
 {
     match words {
-        [head, operation, register, bar, flow, target]
+        [head, operation, register, bar, statement, target]
             if *operation == b"NOP".as_slice()
                 && *register == b"R0".as_slice()
-                && *bar == b"|".as_slice()
-                && *flow == b"goto".as_slice() => {
+                && *bar == b"|".as_slice() => {
             let (last, label) = head.split_last()?;
             if *last == b':' {
-                Some(FlowLine { label, target })
+                Some(FlowLine {
+                    label,
+                    statement,
+                    target,
+                })
             } else {
                 None
             }

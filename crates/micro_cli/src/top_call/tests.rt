@@ -8,16 +8,21 @@ use std::test::Fail;
 
 /// The head of a source of three cells, without the pin of C.
 const HEAD: &[u8] = b"slices 1\nstart A\npin A 0 0\npin B 0 15\n";
-/// Its instructions.
-const BODY: &[u8] = b"A: NOP R0 | goto B\nB: NOP R0 | goto C\nC: NOP R0 | goto B\n";
+/// The instructions of A and B.
+const BODY: &[u8] = b"A: NOP R0 | goto B\nB: NOP R0 | goto C\n";
+/// The instruction of C, with a strobe.
+const STROBE: &[u8] = b"C: NOP R0 | strobe B\n";
 /// The map of the source with C at 5 15.
-const MAP: &[u8] = b"A 0.0 3f JCR 15\nB 0.15 05 JCC 5\nC 5.15 00 JCC 0\n";
+const MAP: &[u8] = b"A 0.0 3f JCR 15\nB 0.15 05 JCC 5\nC 5.15 2f JZR 15\n";
+/// The map of the same with a `goto` for the strobe.
+const GOTO_MAP: &[u8] = b"A 0.0 3f JCR 15\nB 0.15 05 JCC 5\nC 5.15 00 JCC 0\n";
 
-// The source with this line for the pin of C.
-fn source(alloc: Global, pin: &[u8]) -> Result<Vec<u8>, OutOfMemory> {
+// The source with these lines for the pin and the instruction of C.
+fn source(alloc: Global, pin: &[u8], last: &[u8]) -> Result<Vec<u8>, OutOfMemory> {
     let mut text = Vec::from_slice(alloc, HEAD)?;
     text.extend_from_slice(pin)?;
     text.extend_from_slice(BODY)?;
+    text.extend_from_slice(last)?;
     Ok(text)
 }
 
@@ -47,12 +52,20 @@ fn mapped<S: Shelf>(alloc: Global, shelf: &mut S) -> Result<(Status, MemSink), O
 #[test]
 fn answers_by_the_bytes_of_the_source(rt: HostRuntime) -> Result<(), Fail> {
     let alloc = rt.alloc();
-    let good = source(alloc, b"pin C 5 15\n")?;
-    let astray = source(alloc, b"pin C 5 14\n")?;
-    let unpinned = source(alloc, b"")?;
+    let good = source(alloc, b"pin C 5 15\n", STROBE)?;
+    let astray = source(alloc, b"pin C 5 14\n", STROBE)?;
+    let unpinned = source(alloc, b"", STROBE)?;
+    let gone = source(alloc, b"pin C 5 15\n", b"C: NOP R0 | goto B\n")?;
+    let other = source(alloc, b"pin C 5 15\n", b"C: NOP R0 | enable B\n")?;
     let long = vec![in alloc; b'#'; 1_048_577]?;
     for (bytes, status, text) in [
         (good.as_slice(), Status::Done, MAP),
+        (gone.as_slice(), Status::Done, GOTO_MAP),
+        (
+            other.as_slice(),
+            Status::Input,
+            b"refused s NotYet\n".as_slice(),
+        ),
         (
             b"".as_slice(),
             Status::Input,
@@ -102,7 +115,7 @@ fn answers_words_and_absent_files(rt: HostRuntime) -> Result<(), Fail> {
 #[test]
 fn tells_each_failing_call(rt: HostRuntime) -> Result<(), Fail> {
     let alloc = rt.alloc();
-    let good = source(alloc, b"pin C 5 15\n")?;
+    let good = source(alloc, b"pin C 5 15\n", STROBE)?;
     // The source is read by one read, and by one more that finds its end.
     for number in 1..=3 {
         let mut shelf = shelf_with(alloc, &good)?;
@@ -177,7 +190,7 @@ impl Shelf for OneByteShelf {
 #[test]
 fn answers_the_same_over_short_reads(rt: HostRuntime) -> Result<(), Fail> {
     let alloc = rt.alloc();
-    let good = source(alloc, b"pin C 5 15\n")?;
+    let good = source(alloc, b"pin C 5 15\n", STROBE)?;
     let mut shelf = OneByteShelf {
         files: shelf_with(alloc, &good)?,
     };

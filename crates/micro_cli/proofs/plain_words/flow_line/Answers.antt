@@ -1,5 +1,5 @@
 use Rattle.std.proofs.Common.{rules, ◌≡◌, ◌∷◌, ◌++◌, [], map, List, ℕ, slice_index_or, Bor, codes, ap, ◌∙◌}
-use Rattle.micro_cli.specs.PlainWords.{goto_words}
+use Rattle.micro_cli.specs.PlainWords.{flow_words}
 use Rattle.micro_cli.proofs.FixedLists.{map_six}
 use Rattle.micro_cli.proofs.plain_words.flow_line.Goals as goal
 
@@ -9,7 +9,6 @@ returns-then-last-eq58 c =
     let operation : (slice_index_or c.args.words.now 1 record { ref_ptr = (0, 0); now = [] }).now ≡ codes "NOP" = search rules in
     let register : (slice_index_or c.args.words.now 2 record { ref_ptr = (0, 0); now = [] }).now ≡ codes "R0" = search rules in
     let bar : (slice_index_or c.args.words.now 3 record { ref_ptr = (0, 0); now = [] }).now ≡ codes "|" = search rules in
-    let flow : (slice_index_or c.args.words.now 4 record { ref_ptr = (0, 0); now = [] }).now ≡ codes "goto" = search rules in
     let head : (slice_index_or c.args.words.now 0 record { ref_ptr = (0, 0); now = [] }).now ≡ c.in_ok-last-in-len6.label.now ++ codes ":" =
     c.in_ok-last-in-len6.ensures.cases.0 ∙ ap (λ b. c.in_ok-last-in-len6.label.now ++ b ∷ []) c.if-last-eq58.true in
-    rw six (cc (head, operation, register, bar, flow))
+    rw six (cc (head, operation, register, bar))
