@@ -14,7 +14,9 @@ mod status;
 mod top_call;
 
 use io_base::{FileShelf, StdSink};
+use status::Status;
 use std::env;
+use std::io::ErrorKind;
 use std::process::ExitCode;
 use top_call::top;
 
@@ -23,8 +25,11 @@ fn main(rt: HostRuntime) -> ExitCode {
     let words = match env::args(&rt) {
         Ok(args) => match args.skip(1).collect(alloc) {
             Ok(words) => words,
-            Err(_) => return ExitCode::from(status::Status::NoMemory.number()),
+            Err(_) => return ExitCode::from(Status::NoMemory.number()),
         },
+        Err(e) if e.kind() == ErrorKind::OutOfMemory => return ExitCode::from(
+            Status::NoMemory.number(),
+        ),
         Err(_) => Vec::new(alloc),
     };
     let mut shelf = FileShelf::new(&rt);

@@ -1,6 +1,7 @@
 //! The command `map SRC`: the map of a source at the cells of its pins.
 ghost use Rattle.std.specs.Prelude.{◌≡◌, ◌≤◌, IfOk, length};
 ghost use Rattle.io_base.specs.Shelf.{GoesOn};
+ghost use Rattle.io_base.specs.Sink.{Flows};
 ghost use Rattle.flow_graph.specs.Graph.{graph_of};
 ghost use Rattle.micro_cli.specs.Reply.{ProgramReply, SourceReply};
 ghost use Rattle.micro_cli.specs.Answer.{MapAnswer};
@@ -90,6 +91,7 @@ pub fn map_command<S: Shelf, K: Sink>(
     ensures ends { Ends (MapAnswer src.now (S.state shelf.old) (S.state shelf.new)) (K.state out.old) (K.state out.new) result }
     ensures same { (S.state shelf.new).file ≡ (S.state shelf.old).file }
     ensures goes_on { GoesOn (S.state shelf.old) (S.state shelf.new) }
+    ensures flows { Flows (K.state out.old) (K.state out.new) }
 {
     match file_reply(alloc, shelf, src) {
         Ok(reply) => say(out, reply.status, reply.text.as_slice()),

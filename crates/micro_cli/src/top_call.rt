@@ -1,5 +1,7 @@
 //! The whole program as one call, over any shelf and any sink.
 ghost use Rattle.std.specs.Prelude.{◌≡◌, map, string_bytes};
+ghost use Rattle.io_base.specs.Shelf.{GoesOn};
+ghost use Rattle.io_base.specs.Sink.{Flows};
 ghost use Rattle.micro_cli.specs.Command.{command_of};
 ghost use Rattle.micro_cli.specs.Answer.{Answer};
 ghost use Rattle.micro_cli.specs.Ending.{Ends};
@@ -19,6 +21,8 @@ pub fn top<S: Shelf, K: Sink>(alloc: Global, words: &[String], shelf: &mut S, ou
     ensures ends { Ends (Answer (command_of (map string_bytes words.now)) (S.state shelf.old) (S.state shelf.new))
         (K.state out.old) (K.state out.new) result }
     ensures no_file_changes { (S.state shelf.new).file ≡ (S.state shelf.old).file }
+    ensures goes_on { GoesOn (S.state shelf.old) (S.state shelf.new) }
+    ensures flows { Flows (K.state out.old) (K.state out.new) }
 {
     match request_of(words) {
         Request::Map { src } => map_command(alloc, shelf, out, src),

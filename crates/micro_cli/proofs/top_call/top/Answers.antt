@@ -19,4 +19,4 @@ returns-in-Unknown-clause-ends g c =
     (g.K.Sink.state c.args.out.now) (g.K.Sink.state c.say.new.out) c.say.result in
     subst P c.in-Unknown.ensures
     (says_ends (Answer None (g.S.Shelf.state c.args.shelf.now) (g.S.Shelf.state c.args.shelf.now)) status.Words (codes "refused words\n")
-    (g.K.Sink.state c.args.out.now) (g.K.Sink.state c.say.new.out) c.say.result (refl, refl) c.say.ensures)
+    (g.K.Sink.state c.args.out.now) (g.K.Sink.state c.say.new.out) c.say.result (refl, refl) c.say.ensures.says)
