@@ -1,0 +1,20 @@
+//! Literals, clause lists, and the lines of a refutation: the words that the search, the refutation text
+//! and the checker share.
+//!
+//! A clause list is what a contract sees: a number of variables and a list of clauses. What it means that
+//! a line is derived, that lines are a refutation, and that a budget is spent is said in `specs/Refutation`
+//! and `specs/Spent` of clauses and lines alone, whatever a search or a checker keeps beside them.
+#![tactic(auto)]
+
+mod clash;
+mod clause_list;
+mod lit;
+mod log;
+
+pub use clash::{Clash, Entries, Entry};
+pub use clause_list::ClauseList;
+pub use lit::{Lit, Lits};
+pub use log::{Line, Log, Numbers};
+
+#[cfg(test)]
+mod tests;
