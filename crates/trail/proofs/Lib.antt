@@ -1,0 +1,5 @@
+pub mod Signs
+pub mod Order
+pub mod Levels
+pub mod Changes
+pub mod Ends

@@ -1,0 +1,9 @@
+use Rattle.std.proofs.Common.{subst}
+use Rattle.trail.specs.Assignment.{Assignment, IsLevelled}
+use Rattle.trail.proofs.Levels.{IsTrail-levelled}
+use Rattle.trail.proofs.trail.Trail.level.Goals as goal
+
+pub returns-clause-levelled : goal.returns-clause-levelled
+returns-clause-levelled c =
+    let i = c.self.inside in
+    subst (λ (a : Assignment). IsLevelled a.entries) c.self.view_is (IsTrail-levelled i.vars i.entries.items c.self.invariant.lists.ordered)
