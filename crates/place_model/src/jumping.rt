@@ -1,6 +1,5 @@
 //! Which jump an instruction becomes under a placement.
-ghost use Rattle.std.specs.Prelude.{◌≡◌, ◌<◌, ◌≤◌, ◌↔◌, length, map, IfNone, IfSome, IsTrue};
-ghost use Rattle.std.specs.Option.{option_and_then};
+ghost use Rattle.std.specs.Prelude.{◌≡◌, ◌<◌, ◌≤◌, ◌↔◌, length, IfNone, IfSome, IsTrue};
 ghost use Rattle.mcu_jumps.specs.JumpWord.{JumpWord, ac_of};
 ghost use Rattle.mcu_jumps.specs.NextAddress.{outcome_count};
 ghost use Rattle.mcu_jumps.specs.Landing.{outcomes_of, Serves};
@@ -46,10 +45,8 @@ fn lands_traps_free(placement: &Placement, targets: &[Option<u16>], from: Cell, 
 {
     let count = placement.as_slice().len() as u16;
     for (outcome, target) in targets.iter().enumerate() {
-        if target.is_none() {
-            if placement.is_taken_below(count, landing(from, jump, outcome as u8)) {
-                return false;
-            }
+        if target.is_none() && placement.is_taken_below(count, landing(from, jump, outcome as u8)) {
+            return false;
         }
     }
     true

@@ -1,5 +1,5 @@
 //! The placement that the pins of a source give.
-ghost use Rattle.std.specs.Prelude.{◌≡◌, IfErr, IfNone, IfOk, IfSome};
+ghost use Rattle.std.specs.Prelude.{IfErr, IfNone, IfOk, IfSome};
 ghost use Rattle.flow_graph.specs.Graph.{graph_of};
 ghost use Rattle.place_model.specs.Legal.{IsLegal};
 ghost use Rattle.place_model.specs.Pinned.{IsPinnedTo, IsUnpinned, ArePinnedCells, IsRefusal};

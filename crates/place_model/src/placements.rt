@@ -1,6 +1,5 @@
 //! A placement: a cell for each label.
 ghost use Rattle.std.specs.Prelude.{◌≡◌, ◌<◌, ◌≤◌, length, Some, slice_get, MatchBool};
-ghost use Rattle.mcu_jumps.specs.Position.{Position};
 ghost use Rattle.place_model.specs.Cells.{IsTakenBelow, IsFreeBelow};
 
 use mcu_jumps::Cell;
