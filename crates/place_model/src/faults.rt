@@ -1,5 +1,4 @@
 //! Why pins give no legal placement.
-use io_base::OutOfMemory;
 
 /// What is wrong at an instruction.
 #[derive(Clone, Copy, Debug, PartialEq, Eq)]
@@ -22,10 +21,4 @@ pub enum MapKind {
 pub enum MapFault {
     At { line: u32, kind: MapKind },
     OutOfMemory,
-}
-
-impl From<OutOfMemory> for MapFault {
-    fn from(_refusal: OutOfMemory) -> MapFault {
-        MapFault::OutOfMemory
-    }
 }
