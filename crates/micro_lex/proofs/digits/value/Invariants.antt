@@ -1,0 +1,6 @@
+use Rattle.std.proofs.Common.{◌≡◌, ◌<◌, ◌^◌, take}
+use Rattle.std.specs.Str.Parse.{digits_value}
+use Rattle.micro_lex.proofs.digits.value.Given as goal
+
+abbrev pub invariant-loop-byte : goal.invariant-loop-byte
+invariant-loop-byte l = record { so_far : l.value ≡ digits_value l.radix (take l.byte-index l.digits); fits : l.value < 2 ^ 128 }
