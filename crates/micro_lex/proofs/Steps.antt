@@ -42,7 +42,7 @@ reads_on line place end (Err cause) others h = refl
 begins_none : (place b : ℕ) (bs : List ℕ) → is_space b ≡ true → beginning place (b ∷ bs) ≡ Ok None
 begins_none place b bs s = rw s refl
 
-begins_run : (place b : ℕ) (bs : List ℕ) → is_space b ≡ false → is_run_byte b ≡ true
+pub begins_run : (place b : ℕ) (bs : List ℕ) → is_space b ≡ false → is_run_byte b ≡ true
     → beginning place (b ∷ bs) ≡ spanned place (place + length (take_while is_run_byte (b ∷ bs))) (run_kind (take_while is_run_byte (b ∷ bs)))
 begins_run place b bs s w =
     ap (λ (x : Bool). cond x (Ok None) (cond (is_run_byte b) (spanned place (place + length (take_while is_run_byte (b ∷ bs))) (run_kind (take_while is_run_byte (b ∷ bs)))) (spanned place (place + 1) (mark_kind b)))) s

@@ -6,4 +6,3 @@ pub mod Names
 pub mod Reading
 pub mod Lines
 pub mod LineSpans
-pub mod Spaced

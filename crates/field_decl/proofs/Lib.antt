@@ -1,0 +1,7 @@
+pub mod FieldLemmas
+pub mod LayoutLaw
+pub mod NamePads
+pub mod ReadAgain
+pub mod Sound
+pub mod SpacedRuns
+pub mod SpreadBits

@@ -1,0 +1,97 @@
+-- What accepted directives declare fits together.
+use Rattle.std.proofs.Common.{◌≡◌, ℕ, zero, suc, ◌+◌, ◌*◌, ◌%◌, ◌^◌, ◌≤◌, ◌<◌, Bool, true, false, not, ◌&&◌, ◌||◌, cond, List, [], ◌∷◌, ◌++◌, length, Option, Some, None, refl, sym, ap, subst, ◌∙◌, arith, eqb, ltb, inl, inr}
+use Rattle.std.specs.Prelude.{All, sum_by, option_and_then, nat_lt, nat_le, unwrap_or}
+use Rattle.std.specs.List.{list_any, list_all}
+use Rattle.std.proofs.Math.Nat.{pow-le-pow_right, mod-eq_of_lt}
+use Rattle.std.proofs.lemmas.Bool.{and_from, and_parts, le-leb, lt-ltb}
+use Rattle.std.proofs.lemmas.List.Elements.{All-nil, All-push}
+use Rattle.std.proofs.lemmas.List.Folds.{list_all-append}
+use Rattle.micro_lex.specs.Names.{IsName}
+use Rattle.field_decl.specs.declared.field.Field.{Field}
+use Rattle.field_decl.specs.Declaration.{IsDeclaration}
+use Rattle.field_decl.specs.Earlier.{Declared, declared_by, declaration_with, FitsTogether, IsSound}
+use Rattle.field_decl.specs.Fields.{has_field, is_sized, are_distinct, widths, word_bits, can_write, write_place, is_write}
+use Rattle.field_decl.proofs.FieldLemmas.{distinct_push, widths_push, write_is_bit, few_fields}
+
+abbrev Prom : Type 0
+Prom = Option (ℕ × ℕ)
+
+-- nothing is declared
+pub sound_none : IsSound (declared_by [])
+sound_none = record {
+  fits = record { some_slices = omega arith; most_slices = omega arith; some_kbus = omega arith; shared = refl; named = All-nil _; distinct = refl; sized = refl; word = omega arith; words = refl; bits = refl; write_bit = refl };
+  ordered = λ _. refl;
+}
+
+pub sound_slices : (slices kbus : Option ℕ) (fields : List Field) (prom : Prom) (write : Option (List ℕ)) (n : ℕ) → IsSound (record { slices = slices; kbus = kbus; fields = fields; prom = prom; write = write })
+    → slices ≡ None → 1 ≤ n → n ≤ 16 → IsSound (record { slices = Some n; kbus = kbus; fields = fields; prom = prom; write = write })
+sound_slices slices kbus fields prom write n h none least most =
+    let free : kbus ≡ None = h.ordered none in
+    record {
+      fits = record { some_slices = least; most_slices = most; some_kbus = h.fits.some_kbus; shared = rw free (omega arith); named = h.fits.named; distinct = h.fits.distinct; sized = h.fits.sized; word = h.fits.word; words = h.fits.words; bits = h.fits.bits; write_bit = h.fits.write_bit };
+      ordered = λ _. free;
+    }
+
+pub sound_kbus : (slices kbus : Option ℕ) (fields : List Field) (prom : Prom) (write : Option (List ℕ)) (n k : ℕ) → IsSound (record { slices = slices; kbus = kbus; fields = fields; prom = prom; write = write })
+    → slices ≡ Some n → 0 < k → 2 * n % k ≡ 0 → word_bits k fields ≤ 96 → IsSound (record { slices = slices; kbus = Some k; fields = fields; prom = prom; write = write })
+sound_kbus slices kbus fields prom write n k h some pos shares narrow = record {
+  fits = record { some_slices = h.fits.some_slices; most_slices = h.fits.most_slices; some_kbus = pos; shared = rw some shares; named = h.fits.named; distinct = h.fits.distinct; sized = h.fits.sized; word = narrow; words = h.fits.words; bits = h.fits.bits; write_bit = h.fits.write_bit };
+  ordered = λ none. absurd (given slices n some none);
+}
+  where
+    given : (o : Option ℕ) (n : ℕ) → o ≡ Some n → o ≡ None → ⊥
+    given o n some none = let e : (let x : Option ℕ = Some n in x ≡ None) = sym some ∙ none in absurd cc
+
+pub sound_field : (slices kbus : Option ℕ) (fields : List Field) (prom : Prom) (write : Option (List ℕ)) (field : Field) → IsSound (record { slices = slices; kbus = kbus; fields = fields; prom = prom; write = write })
+    → IsName field.name → has_field fields field.name ≡ false → 1 ≤ field.width → field.width ≤ 32 → field.default < 2 ^ field.width → word_bits (unwrap_or kbus 1) fields + field.width ≤ 96
+    → IsSound (record { slices = slices; kbus = kbus; fields = fields ++ field ∷ []; prom = prom; write = write })
+sound_field slices kbus fields prom write field h name new least most fits narrow =
+    let sized : is_sized field ≡ true =
+    and_from (nat_le 1 field.width && nat_le field.width 32) (nat_lt field.default (2 ^ field.width)) (and_from (nat_le 1 field.width) (nat_le field.width 32) (le-leb 1 field.width least) (le-leb field.width 32 most)) (lt-ltb field.default (2 ^ field.width) fits) in
+    record {
+      fits = record {
+        some_slices = h.fits.some_slices;
+        most_slices = h.fits.most_slices;
+        some_kbus = h.fits.some_kbus;
+        shared = h.fits.shared;
+        named = All-push (λ f. IsName f.name) fields field h.fits.named name;
+        distinct = distinct_push fields field h.fits.distinct new;
+        sized = list_all-append is_sized fields (field ∷ []) ∙ and_from (list_all is_sized fields) (is_sized field && true) h.fits.sized (and_from (is_sized field) true sized refl);
+        word = omega (arith, narrow, widths_push fields field);
+        words = h.fits.words;
+        bits = h.fits.bits;
+        write_bit = write_is_bit (fields ++ field ∷ []) write;
+      };
+      ordered = h.ordered;
+    }
+
+pub sound_prom : (slices kbus : Option ℕ) (fields : List Field) (prom : Prom) (write : Option (List ℕ)) (words bits : ℕ) → IsSound (record { slices = slices; kbus = kbus; fields = fields; prom = prom; write = write })
+    → words ≡ 512 → (eqb bits 4 || eqb bits 8) ≡ true → IsSound (record { slices = slices; kbus = kbus; fields = fields; prom = Some (words, bits); write = write })
+sound_prom slices kbus fields prom write words bits h w b = record {
+  fits = record { some_slices = h.fits.some_slices; most_slices = h.fits.most_slices; some_kbus = h.fits.some_kbus; shared = h.fits.shared; named = h.fits.named; distinct = h.fits.distinct; sized = h.fits.sized; word = h.fits.word; words = w; bits = b; write_bit = h.fits.write_bit };
+  ordered = h.ordered;
+}
+
+pub sound_write : (slices kbus : Option ℕ) (fields : List Field) (prom : Prom) (write : Option (List ℕ)) (name : List ℕ) → IsSound (record { slices = slices; kbus = kbus; fields = fields; prom = prom; write = write })
+    → IsSound (record { slices = slices; kbus = kbus; fields = fields; prom = prom; write = Some name })
+sound_write slices kbus fields prom write name h = record {
+  fits = record { some_slices = h.fits.some_slices; most_slices = h.fits.most_slices; some_kbus = h.fits.some_kbus; shared = h.fits.shared; named = h.fits.named; distinct = h.fits.distinct; sized = h.fits.sized; word = h.fits.word; words = h.fits.words; bits = h.fits.bits; write_bit = write_is_bit fields (Some name) };
+  ordered = h.ordered;
+}
+
+-- ---- what the numbers of a sound state are
+
+-- the fields leave room for jump, flags, function and one K bit
+pub few_widths : (declared : Declared) → IsSound declared → widths declared.fields ≤ 77
+few_widths declared h = omega (arith, h.fits.word, h.fits.some_kbus)
+
+pub few_declared : (declared : Declared) → IsSound declared → length declared.fields ≤ 77
+few_declared declared h = omega (arith, few_widths declared h, few_fields declared.fields h.fits.sized)
+
+-- a default below a power that the code shifts up to is below the power
+pub shifted_fits : (default width : ℕ) → width ≤ 32 → default < 1 * 2 ^ width % 340282366920938463463374607431768211456 → default < 2 ^ width
+shifted_fits default width most fits =
+    let small : 2 ^ width ≤ 2 ^ 32 = pow-le-pow_right (omega arith) most in
+    let one : 1 * 2 ^ width ≡ 2 ^ width = omega arith in
+    let same : 1 * 2 ^ width % 340282366920938463463374607431768211456 ≡ 2 ^ width = rw one (mod-eq_of_lt (omega arith)) in
+    subst (λ (n : ℕ). default < n) same fits

@@ -1,0 +1,14 @@
+pub mod NameBytes
+pub mod Fields
+pub mod Declaration
+pub mod Decls
+pub mod Results
+pub mod Words
+pub mod Directives
+pub mod Earlier
+pub mod DeclStateView
+pub mod Judging
+pub mod Layout
+pub mod Spaced
+pub mod LayoutText
+pub mod KBits

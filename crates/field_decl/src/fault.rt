@@ -1,0 +1,116 @@
+//! Why a source or a layout is refused.
+
+ghost use Rattle.std.specs.Prelude.{◌≡◌};
+ghost use Rattle.field_decl.specs.declared.fault.LineFault.TheVariants.{OutOfMemory};
+
+use std::alloc::{AllocError, AllocFailed};
+
+/// Why a line of a source is refused. A layout has the lines of a source that declare.
+///
+/// The first four are faults of the line's tokens, with the column from 1.
+#[derive(Clone, Copy, Debug, PartialEq, Eq)]
+pub enum AsmKind {
+    /// A byte outside comments that no token has.
+    BadByte(u32),
+    /// A run that begins with a digit and is no number.
+    BadNumber(u32),
+    /// A number of 2^128 or more.
+    NumberTooWide(u32),
+    /// A name of more than 32 bytes.
+    NameTooLong(u32),
+    /// The first word names no directive.
+    UnknownDirective,
+    /// The words are not of the directive's form.
+    Shape,
+    /// A declaration after an instruction.
+    Late,
+    /// Slices given twice, not 1 to 16, or missing.
+    Slices,
+    /// A K bus given twice, of no bits, or that the slices' bits cannot share.
+    KBus,
+    /// A microword of more than 96 bits.
+    WordTooWide,
+    /// A field of a name that a field has.
+    FieldTwice,
+    /// A field of no bits, or of more than 32.
+    FieldWidth,
+    /// A default that the field does not hold.
+    DefaultTooWide,
+    /// PROMs given twice, or not of 512 words of 4 or 8 bits.
+    Prom,
+    /// A write field given twice, or that is no field of one bit declared above.
+    WriteField,
+    /// A row bound given twice, or not 1 to 32.
+    Rows,
+    /// A start given twice.
+    StartTwice,
+    /// A pin outside the matrix.
+    PinRange,
+    /// A label pinned twice.
+    PinTwice,
+    /// A label that an instruction has.
+    LabelTwice,
+    /// More than 128 instructions.
+    TooMany,
+    /// A function above 7, or a register group that is not 1 to 3.
+    Function,
+    /// No mnemonic of the table.
+    Mnemonic,
+    /// A register that the group does not have.
+    Register,
+    /// A mask that the K bits cannot give.
+    MaskShape,
+    /// A right shift with a mask other than 0.
+    ShiftMask,
+    /// No flag function.
+    FlagName,
+    /// A setting given twice.
+    SettingTwice,
+    /// A setting of a field that is not declared.
+    UnknownField,
+    /// A value that the field does not hold.
+    FieldValue,
+    /// No flow statement.
+    UnknownFlow,
+    /// Not as many targets as the statement has outcomes.
+    TargetCount,
+    /// No target that is a label.
+    NoTarget,
+    /// A source without instructions.
+    Empty,
+    /// A source without a start.
+    NoStart,
+    /// A label that no instruction has.
+    UnknownLabel,
+}
+
+/// Why one line is not taken: it is refused, or memory is wanting.
+#[derive(Clone, Copy, Debug, PartialEq, Eq)]
+pub enum LineFault {
+    Kind(AsmKind),
+    OutOfMemory,
+}
+
+/// Why a layout gives no declaration.
+#[derive(Clone, Copy, Debug, PartialEq, Eq)]
+pub enum DeclFault {
+    /// The first refused line, from 1, or line 0 for what the whole text lacks.
+    At { line: u32, kind: AsmKind },
+    OutOfMemory,
+}
+
+impl From<AllocError> for LineFault {
+    ghost from_gives = { λ _ fault. fault ≡ OutOfMemory };
+
+    fn from(_refusal: AllocError) -> LineFault {
+        LineFault::OutOfMemory
+    }
+}
+
+impl<T: Drop> From<AllocFailed<T>> for LineFault {
+    ghost from_gives = { λ _ fault. fault ≡ OutOfMemory };
+
+    fn from(_refusal: AllocFailed<T>) -> LineFault {
+        LineFault::OutOfMemory
+    }
+}

@@ -1,0 +1,74 @@
+//! User fields of a microword, and lists of them.
+
+ghost use Rattle.std.specs.Prelude.{◌≡◌, ◌≤◌, ◌<◌, ◌^◌, IfSome, length};
+ghost use Rattle.std.specs.List.{list_any};
+ghost use Rattle.field_decl.specs.Fields.{widths, can_write, write_place};
+
+use crate::name::Name;
+use std::marker::Model;
+
+/// A user field: its name, its width in bits (1 to 32), and its value where no setting gives one.
+#[derive(Clone, Copy)]
+pub struct Field {
+    pub name: Name,
+    pub width: u8,
+    pub default: u32,
+}
+
+/// Fields in the order in which they are declared.
+#[derive(Drop)]
+pub struct Fields {
+    items: Vec<Field>,
+}
+
+impl Model for Fields {
+    ghost use Rattle.std.specs.Prelude.{List};
+    ghost use Rattle.field_decl.specs.declared.field.Field.{Field};
+
+    ghost Value = { List Field };
+
+    ghost view = { λ fields. fields.items.items };
+}
+
+impl Fields {
+    /// The fields of this list.
+    pub fn of(items: Vec<Field>) -> Fields
+        ensures { result ≡ items.items }
+    {
+        Fields { items }
+    }
+
+    /// The fields in order.
+    pub fn as_slice(&self) -> &[Field]
+        ensures { result.now ≡ self.now }
+    {
+        &self.items
+    }
+}
+
+/// The bits of all fields together.
+pub(crate) fn widths(fields: &[Field]) -> u32
+    requires { widths fields.now ≤ 96 }
+    ensures { result ≡ widths fields.now }
+{
+    fields.iter().map(|field| field.width as u32).sum()
+}
+
+/// Whether a field of this name and one bit is among them.
+pub(crate) fn can_write(fields: &[Field], name: &Name) -> bool
+    ensures { result ≡ list_any (can_write name.now) fields.now }
+{
+    fields
+        .iter()
+        .any(|field| *name == field.name && field.width == 1)
+}
+
+/// Where the first field of this name and one bit stands.
+pub(crate) fn write_place(fields: &[Field], name: &Name) -> Option<usize>
+    ensures place { result ≡ write_place fields.now name.now }
+    ensures within { IfSome result (λ place. place < length fields.now) }
+{
+    fields
+        .iter()
+        .position(|field| *name == field.name && field.width == 1)
+}

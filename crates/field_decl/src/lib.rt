@@ -1,0 +1,36 @@
+//! Declarations: the chips and the microword that a program is for, and the layout file.
+//!
+//! A directive is judged against all earlier ones. `read_decl` gives just what a layout text
+//! declares, or its first refused line; `print_decl` writes a text that reads as the same
+//! declaration. A `Decl` fits together by its type. The language is this project's own choice.
+#![tactic(auto)]
+
+mod decl;
+mod decl_state;
+mod directive;
+mod fault;
+mod field;
+mod field_table;
+mod field_values;
+mod kbits;
+mod layout;
+mod layout_text;
+mod microword;
+mod name;
+mod word;
+
+pub use decl::Decl;
+pub use decl_state::DeclState;
+pub use directive::{Directive, directive_form};
+pub use fault::{AsmKind, DeclFault, LineFault};
+pub use field::{Field, Fields};
+pub use field_values::FieldValues;
+pub use kbits::{gather, spread};
+pub use layout::read_decl;
+pub use layout_text::print_decl;
+pub use microword::{prom_count, word_width};
+pub use name::Name;
+pub use word::{Word, line_words};
+
+#[cfg(test)]
+mod tests;
