@@ -1,9 +1,8 @@
 -- Lists of fields: names, widths, and the write field.
 use Rattle.std.proofs.Common.{◌≡◌, ℕ, zero, suc, ◌+◌, ◌≤◌, ◌<◌, Bool, true, false, not, ◌&&◌, ◌||◌, cond, List, [], ◌∷◌, ◌++◌, length, get_or, Option, Some, None, refl, sym, ap, subst, ◌∙◌, arith, eqb, ltb, inl, inr}
-use Rattle.std.specs.Prelude.{map, slice_get, position, sum_by, option_and_then, nat_lt, nat_le, ◌^◌}
-use Rattle.std.specs.List.{list_any, list_all, prefix_len, position_or_len}
+use Rattle.std.specs.Prelude.{map, slice_get, option_and_then, nat_lt, nat_le, ◌^◌}
+use Rattle.std.specs.List.{list_any, list_all, position_or_len}
 use Rattle.std.specs.Str.{bytes_eq}
-use Rattle.std.specs.Cmp.Derive.{both_true}
 use Rattle.std.proofs.lemmas.Bool.{cases_Bool, and_parts, and_from, or_parts, or_from, not-true, not-false, not_from_false, leb-true, lt-ltb, ltb-true, or_left, or_right, both_ways, and_left}
 use Rattle.std.proofs.lemmas.Cmp.{nat_list_eq_equiv}
 use Rattle.std.proofs.lemmas.List.Folds.{list_any-append}
@@ -16,6 +15,7 @@ pub has_name : (name : List ℕ) (fields : List Field) → list_any (bytes_eq na
 has_name name [] = refl
 has_name name (field ∷ fields) = ap (λ (b : Bool). bytes_eq name field.name || b) (has_name name fields)
 
+-- the names with one field more
 pub map_push : (fields : List Field) (field : Field) → map (λ f. f.name) (fields ++ field ∷ []) ≡ map (λ f. f.name) fields ++ field.name ∷ []
 map_push [] field = refl
 map_push (f ∷ fields) field = ap (λ (names : List (List ℕ)). f.name ∷ names) (map_push fields field)
@@ -41,6 +41,7 @@ distinct_before (f ∷ before) field after d =
     let here = or_parts (bytes_eq f.name field.name) (has_field after f.name) rest.1 in
     or_from (bytes_eq field.name f.name) (has_field before field.name) (nat_list_eq_equiv.symm field.name f.name ∙ here.0) (distinct_before before field after parts.1)
 
+-- the bits with one field more
 pub widths_push : (fields : List Field) (field : Field) → widths (fields ++ field ∷ []) ≡ widths fields + field.width
 widths_push fields field = omega (arith, sum_by-append (λ f. f.width) fields (field ∷ []), sum_by-cons (λ f. f.width) field [])
 
@@ -56,11 +57,13 @@ few_fields (field ∷ fields) h =
 abbrev no_field : Field
 no_field = record { name = []; width = 0; default = 0 }
 
+-- the field at a place in range
 read_at : (fields : List Field) (place : ℕ) → place < length fields → slice_get fields place ≡ Some (get_or fields place no_field)
 read_at [] place lt = absurd (omega arith)
 read_at (f ∷ fields) zero lt = refl
 read_at (f ∷ fields) (suc place) lt = read_at fields place (omega arith)
 
+-- the place of a write field holds a field of one bit
 placed_bit : (name : List ℕ) (fields : List Field) (within : Bool) → ltb (position_or_len (can_write name) fields) (length fields) ≡ within → is_write (cond within (Some (position_or_len (can_write name) fields)) None) fields ≡ true
 placed_bit name fields false e = refl
 placed_bit name fields true e =
@@ -83,6 +86,7 @@ has_at (f ∷ fields) zero field e =
     subst (λ (g : Field). (bytes_eq g.name f.name || has_field fields g.name) ≡ true) same (or_left (bytes_eq f.name f.name) (has_field fields f.name) (nat_list_eq_equiv.refl f.name))
 has_at (f ∷ fields) (suc place) field e = or_right (bytes_eq field.name f.name) (has_field fields field.name) (has_at fields place field e)
 
+-- no field before it can be the write field of its name
 pub before_place : (fields : List Field) (place : ℕ) (field : Field) → are_distinct fields ≡ true → slice_get fields place ≡ Some field → eqb field.width 1 ≡ true → position_or_len (can_write field.name) fields ≡ place
 before_place [] place field d e bit = absurd cc
 before_place (f ∷ fields) zero field d e bit =
@@ -102,11 +106,13 @@ before_place (f ∷ fields) (suc place) field d e bit =
     alike a b [] same = refl
     alike a b (g ∷ fields) same = ap (λ (x : Bool). x || has_field fields a) (nat_list_eq_equiv.congr a b g.name same) ∙ ap (λ (x : Bool). bytes_eq b g.name || x) (alike a b fields same)
 
+-- a place with a field is in range
 length_past : (fields : List Field) (place : ℕ) (field : Field) → slice_get fields place ≡ Some field → place < length fields
 length_past [] place field e = absurd cc
 length_past (f ∷ fields) zero field e = omega arith
 length_past (f ∷ fields) (suc place) field e = let more = length_past fields place field e in omega (arith, more)
 
+-- the write field is found by its name
 pub place_found : (fields : List Field) (place : ℕ) (field : Field) → are_distinct fields ≡ true → slice_get fields place ≡ Some field → eqb field.width 1 ≡ true → write_place fields field.name ≡ Some place
 place_found fields place field d e bit =
     rw (before_place fields place field d e bit, lt-ltb place (length fields) (length_past fields place field e)) refl

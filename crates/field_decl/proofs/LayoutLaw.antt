@@ -1,6 +1,5 @@
 -- Going from what is declared to what is declared is judging each line after all lines before it.
-use Rattle.std.proofs.Common.{◌≡◌, ℕ, suc, ◌+◌, List, [], ◌∷◌, ◌++◌, length, Option, Some, None, Result, Ok, Err, refl, sym, ap, ◌∙◌, arith}
-use Rattle.std.specs.List.{filter_map}
+use Rattle.std.proofs.Common.{◌≡◌, ℕ, ◌+◌, List, [], ◌∷◌, ◌++◌, length, Option, Some, None, Result, Ok, Err, refl, sym, ap, ◌∙◌, arith}
 use Rattle.std.proofs.lemmas.List.{append-nil, length-append}
 use Rattle.std.proofs.lemmas.List.Elements.{filter_map-append}
 use Rattle.micro_lex.specs.Lines.{lines}
@@ -11,12 +10,14 @@ use Rattle.field_decl.specs.declared.fault.DeclFault.{DeclFault}
 use Rattle.field_decl.specs.declared.fault.DeclFault.TheVariants as faults
 use Rattle.field_decl.specs.declared.word.Word.{Word}
 use Rattle.field_decl.specs.Declaration.{Declaration}
-use Rattle.field_decl.specs.Earlier.{Declared, declared_by, with_directive, first, given_or, slices_in, kbus_in, field_in, prom_in, write_in}
-use Rattle.field_decl.specs.Judging.{refusal, judged}
-use Rattle.field_decl.specs.Layout.{line_form, directives_in, line_refusal, line_read, lines_read, layout_of, completed, line_judged, after_line, after_lines}
+use Rattle.field_decl.specs.Earlier.{Declared, declared_by, with_directive, first, given_or}
+use Rattle.field_decl.specs.Judging.{refusal}
+use Rattle.field_decl.specs.Layout.{line_form, directives_in, line_refusal, line_read, lines_read, layout_of, completed}
+use Rattle.field_decl.specs.LayoutSteps.{line_judged, after_line, after_lines}
 use Rattle.field_decl.specs.Results.{◌>>=◌, unless_refused, in_line, RefusesAt}
 use Rattle.field_decl.specs.Words.{words_of}
 
+-- the first of a list with one element more
 first_push : {X : Type 0} (xs : List X) (y : X) → first (xs ++ y ∷ []) ≡ given_or (first xs) y
 first_push [] y = refl
 first_push (x ∷ xs) y = refl
@@ -33,9 +34,11 @@ declared_push earlier (Write name) = simp (filter_map-append, first_push, append
 abbrev declares : List (Option Directive) → Declared
 declares earlier = declared_by (directives_in earlier)
 
+-- a line that says nothing declares nothing
 said_nothing : (earlier : List (Option Directive)) → declares (earlier ++ None ∷ []) ≡ declares earlier
 said_nothing earlier = ap declared_by (filter_map-append (λ line. line) earlier (None ∷ []) ∙ append-nil (directives_in earlier))
 
+-- a line with a directive adds it
 said_one : (earlier : List (Option Directive)) (directive : Directive) → declares (earlier ++ Some directive ∷ []) ≡ with_directive (declares earlier) directive
 said_one earlier directive = ap declared_by (filter_map-append (λ line. line) earlier (Some directive ∷ [])) ∙ declared_push (directives_in earlier) directive
 
@@ -51,20 +54,24 @@ judged_one : (earlier : List (Option Directive)) (directive : Directive) (why : 
 judged_one earlier directive None = ap ok_declared (sym (said_one earlier directive))
 judged_one earlier directive (Some kind) = refl
 
+-- a line is taken as it is judged
 judged_line : (earlier : List (Option Directive)) (read : Option Directive) → line_judged (declares earlier) read ≡ (unless_refused (line_refusal earlier read) read >>= after earlier)
 judged_line earlier None = ap ok_declared (sym (said_nothing earlier))
 judged_line earlier (Some directive) = judged_one earlier directive (refusal (declares earlier) directive)
 
+-- and so is its form
 formed_line : (earlier : List (Option Directive)) (formed : Result (Option Directive) AsmKind)
     → (formed >>= line_judged (declares earlier)) ≡ ((formed >>= λ read. unless_refused (line_refusal earlier read) read) >>= after earlier)
 formed_line earlier (Ok read) = judged_line earlier read
 formed_line earlier (Err kind) = refl
 
+-- and so are its words
 worded_line : (earlier : List (Option Directive)) (words : Result (List Word) AsmKind)
     → (words >>= line_form >>= line_judged (declares earlier)) ≡ ((words >>= line_form >>= λ read. unless_refused (line_refusal earlier read) read) >>= after earlier)
 worded_line earlier (Ok words) = formed_line earlier (line_form words)
 worded_line earlier (Err kind) = refl
 
+-- a line is taken into what is declared as it is read after the lines before it
 taken : (earlier : List (Option Directive)) (line : List ℕ) → after_line (declares earlier) line ≡ (line_read earlier line >>= after earlier)
 unfolding after_line line_read
 taken earlier line = worded_line earlier (words_of line)
@@ -72,6 +79,7 @@ taken earlier line = worded_line earlier (words_of line)
 abbrev all_read : List (Option Directive) → Result Declared (ℕ × AsmKind)
 all_read read = Ok (declares read)
 
+-- the lines behind a line that is read
 goes_on : (earlier : List (Option Directive)) (rest : List (List ℕ)) (number : ℕ)
     → ((read : Option Directive) → after_lines (declares (earlier ++ read ∷ [])) (number + 1) rest ≡ (lines_read (earlier ++ read ∷ []) rest >>= all_read))
     → (read : Result (Option Directive) AsmKind)
@@ -79,6 +87,7 @@ goes_on : (earlier : List (Option Directive)) (rest : List (List ℕ)) (number :
 goes_on earlier rest number more (Ok read) = more read
 goes_on earlier rest number more (Err kind) = refl
 
+-- all lines are taken as they are read
 lines_taken : (earlier : List (Option Directive)) (rest : List (List ℕ)) → after_lines (declares earlier) (length earlier + 1) rest ≡ (lines_read earlier rest >>= all_read)
 unfolding after_lines lines_read
 lines_taken earlier [] = refl
@@ -89,6 +98,7 @@ lines_taken earlier (line ∷ rest) =
 abbrev pub finishing : Declared → Result Declaration (ℕ × AsmKind)
 finishing declared = in_line 0 (completed declared)
 
+-- and then completed
 finished : (read : Result (List (Option Directive)) (ℕ × AsmKind)) → (read >>= λ all. in_line 0 (completed (declares all))) ≡ ((read >>= all_read) >>= finishing)
 finished (Ok all) = refl
 finished (Err refused) = refl

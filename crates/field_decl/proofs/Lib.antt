@@ -1,3 +1,4 @@
+pub mod DrivenBits
 pub mod FieldLemmas
 pub mod LayoutLaw
 pub mod NamePads

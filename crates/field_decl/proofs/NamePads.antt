@@ -1,11 +1,12 @@
 -- The bytes of a name and zeros behind them fill the array.
-use Rattle.std.proofs.Common.{◌≡◌, ℕ, ◌-◌, ◌≤◌, List, ◌++◌, length, take, drop, refl, sym, ap, subst, ◌∙◌, arith}
+use Rattle.std.proofs.Common.{ℕ, ◌≤◌, List, ◌++◌, length, drop, sym, ap, subst, arith}
 use Rattle.std.specs.Prelude.{replicate}
 use Rattle.std.proofs.Math.Seq.{take-append_seam}
 use Rattle.std.proofs.lemmas.List.{length-append, length-drop, drop-replicate}
 use Rattle.micro_lex.specs.Names.{IsName}
-use Rattle.field_decl.specs.NameBytes.{padded, IsPadded}
+use Rattle.field_decl.specs.NameBytes.{IsPadded}
 
+-- a name padded with zeros
 pub name_pads : (text : List ℕ) → IsName text → IsPadded (text ++ drop (length text) (replicate 32 0)) (length text)
 name_pads text name = record {
   short = name.short;

@@ -1,16 +1,15 @@
 -- What accepted directives declare fits together.
-use Rattle.std.proofs.Common.{◌≡◌, ℕ, zero, suc, ◌+◌, ◌*◌, ◌%◌, ◌^◌, ◌≤◌, ◌<◌, Bool, true, false, not, ◌&&◌, ◌||◌, cond, List, [], ◌∷◌, ◌++◌, length, Option, Some, None, refl, sym, ap, subst, ◌∙◌, arith, eqb, ltb, inl, inr}
-use Rattle.std.specs.Prelude.{All, sum_by, option_and_then, nat_lt, nat_le, unwrap_or}
-use Rattle.std.specs.List.{list_any, list_all}
+use Rattle.std.proofs.Common.{◌≡◌, ℕ, ◌+◌, ◌*◌, ◌%◌, ◌^◌, ◌≤◌, ◌<◌, true, false, ◌&&◌, ◌||◌, List, [], ◌∷◌, ◌++◌, length, Option, Some, None, refl, sym, subst, ◌∙◌, arith, eqb}
+use Rattle.std.specs.Prelude.{nat_lt, nat_le, unwrap_or}
+use Rattle.std.specs.List.{list_all}
 use Rattle.std.proofs.Math.Nat.{pow-le-pow_right, mod-eq_of_lt}
-use Rattle.std.proofs.lemmas.Bool.{and_from, and_parts, le-leb, lt-ltb}
+use Rattle.std.proofs.lemmas.Bool.{and_from, le-leb, lt-ltb}
 use Rattle.std.proofs.lemmas.List.Elements.{All-nil, All-push}
 use Rattle.std.proofs.lemmas.List.Folds.{list_all-append}
 use Rattle.micro_lex.specs.Names.{IsName}
 use Rattle.field_decl.specs.declared.field.Field.{Field}
-use Rattle.field_decl.specs.Declaration.{IsDeclaration}
-use Rattle.field_decl.specs.Earlier.{Declared, declared_by, declaration_with, FitsTogether, IsSound}
-use Rattle.field_decl.specs.Fields.{has_field, is_sized, are_distinct, widths, word_bits, can_write, write_place, is_write}
+use Rattle.field_decl.specs.Earlier.{Declared, declared_by, IsSound}
+use Rattle.field_decl.specs.Fields.{has_field, is_sized, widths, word_bits}
 use Rattle.field_decl.proofs.FieldLemmas.{distinct_push, widths_push, write_is_bit, few_fields}
 
 abbrev Prom : Type 0
@@ -23,6 +22,7 @@ sound_none = record {
   ordered = λ _. refl;
 }
 
+-- slices are given
 pub sound_slices : (slices kbus : Option ℕ) (fields : List Field) (prom : Prom) (write : Option (List ℕ)) (n : ℕ) → IsSound (record { slices = slices; kbus = kbus; fields = fields; prom = prom; write = write })
     → slices ≡ None → 1 ≤ n → n ≤ 16 → IsSound (record { slices = Some n; kbus = kbus; fields = fields; prom = prom; write = write })
 sound_slices slices kbus fields prom write n h none least most =
@@ -32,6 +32,7 @@ sound_slices slices kbus fields prom write n h none least most =
       ordered = λ _. free;
     }
 
+-- a K bus is given that shares the bus
 pub sound_kbus : (slices kbus : Option ℕ) (fields : List Field) (prom : Prom) (write : Option (List ℕ)) (n k : ℕ) → IsSound (record { slices = slices; kbus = kbus; fields = fields; prom = prom; write = write })
     → slices ≡ Some n → 0 < k → 2 * n % k ≡ 0 → word_bits k fields ≤ 96 → IsSound (record { slices = slices; kbus = Some k; fields = fields; prom = prom; write = write })
 sound_kbus slices kbus fields prom write n k h some pos shares narrow = record {
@@ -42,6 +43,7 @@ sound_kbus slices kbus fields prom write n k h some pos shares narrow = record {
     given : (o : Option ℕ) (n : ℕ) → o ≡ Some n → o ≡ None → ⊥
     given o n some none = let e : (let x : Option ℕ = Some n in x ≡ None) = sym some ∙ none in absurd cc
 
+-- a field of a new name is given
 pub sound_field : (slices kbus : Option ℕ) (fields : List Field) (prom : Prom) (write : Option (List ℕ)) (field : Field) → IsSound (record { slices = slices; kbus = kbus; fields = fields; prom = prom; write = write })
     → IsName field.name → has_field fields field.name ≡ false → 1 ≤ field.width → field.width ≤ 32 → field.default < 2 ^ field.width → word_bits (unwrap_or kbus 1) fields + field.width ≤ 96
     → IsSound (record { slices = slices; kbus = kbus; fields = fields ++ field ∷ []; prom = prom; write = write })
@@ -65,6 +67,7 @@ sound_field slices kbus fields prom write field h name new least most fits narro
       ordered = h.ordered;
     }
 
+-- PROMs are given
 pub sound_prom : (slices kbus : Option ℕ) (fields : List Field) (prom : Prom) (write : Option (List ℕ)) (words bits : ℕ) → IsSound (record { slices = slices; kbus = kbus; fields = fields; prom = prom; write = write })
     → words ≡ 512 → (eqb bits 4 || eqb bits 8) ≡ true → IsSound (record { slices = slices; kbus = kbus; fields = fields; prom = Some (words, bits); write = write })
 sound_prom slices kbus fields prom write words bits h w b = record {
@@ -72,6 +75,7 @@ sound_prom slices kbus fields prom write words bits h w b = record {
   ordered = h.ordered;
 }
 
+-- a write field is given
 pub sound_write : (slices kbus : Option ℕ) (fields : List Field) (prom : Prom) (write : Option (List ℕ)) (name : List ℕ) → IsSound (record { slices = slices; kbus = kbus; fields = fields; prom = prom; write = write })
     → IsSound (record { slices = slices; kbus = kbus; fields = fields; prom = prom; write = Some name })
 sound_write slices kbus fields prom write name h = record {
@@ -85,6 +89,7 @@ sound_write slices kbus fields prom write name h = record {
 pub few_widths : (declared : Declared) → IsSound declared → widths declared.fields ≤ 77
 few_widths declared h = omega (arith, h.fits.word, h.fits.some_kbus)
 
+-- there are no more fields than bits for them
 pub few_declared : (declared : Declared) → IsSound declared → length declared.fields ≤ 77
 few_declared declared h = omega (arith, few_widths declared h, few_fields declared.fields h.fits.sized)
 

@@ -1,5 +1,5 @@
 -- A line of runs with one space between each two gives their tokens, and is one line of its text.
-use Rattle.std.proofs.Common.{◌≡◌, ℕ, zero, suc, ◌+◌, ◌-◌, ◌≤◌, ◌<◌, Bool, true, false, not, ◌&&◌, cond, List, [], ◌∷◌, ◌++◌, length, take, drop, Option, Some, None, Result, Ok, Err, refl, sym, ap, subst, ◌∙◌, append_assoc, arith, eqb}
+use Rattle.std.proofs.Common.{◌≡◌, ℕ, ◌+◌, ◌-◌, ◌<◌, Bool, true, false, not, ◌&&◌, List, [], ◌∷◌, ◌++◌, length, take, drop, Option, Result, Ok, refl, ap, ◌∙◌, append_assoc, arith, eqb}
 use Rattle.std.specs.List.{prefix_len, list_all}
 use Rattle.std.specs.Prelude.{slice_index, slice_range, map, take_while, ◌^◌}
 use Rattle.std.proofs.Math.Seq.{take-append_seam, drop-append_seam}
@@ -16,11 +16,11 @@ use Rattle.micro_lex.specs.declared.token.TokenKind.TheVariants.{Name, Number}
 use Rattle.micro_lex.specs.declared.token.Token.{Token}
 use Rattle.micro_lex.specs.declared.token.TokenKind.{TokenKind}
 use Rattle.micro_lex.specs.Alphabet.{is_run_byte, is_space, is_hash}
-use Rattle.micro_lex.specs.Faults.{Cause, Fault, in_column}
+use Rattle.micro_lex.specs.Faults.{Cause, in_column}
 use Rattle.micro_lex.specs.Lines.{pieces, onto_first, without_cr, lines}
 use Rattle.micro_lex.specs.Names.{IsName}
 use Rattle.micro_lex.specs.Runs.{run_kind}
-use Rattle.micro_lex.specs.Tokens.{spanned, beginning, with_front, with_reading, tokens_of}
+use Rattle.micro_lex.specs.Tokens.{spanned, with_front, with_reading, tokens_of}
 use Rattle.micro_lex.proofs.Scan.{scan, scan_end, scan_begins, past_first_run, line_scanned}
 use Rattle.micro_lex.proofs.Steps.{begins_run}
 use Rattle.field_decl.specs.Spaced.{Run, IsRun, AreRuns, spaced, after_space, tokens_at}
@@ -34,12 +34,15 @@ run_len (b ∷ bs) rest h z =
     let both = and_parts (is_run_byte b) (list_all is_run_byte bs) h in
     rw both.0 (let more = run_len bs rest both.1 z in omega (arith, more))
 
+-- and is taken whole
 run_taken : (run rest : List ℕ) → list_all is_run_byte run ≡ true → prefix_len is_run_byte rest ≡ 0 → take_while is_run_byte (run ++ rest) ≡ run
 run_taken run rest h z = ap (λ (n : ℕ). take n (run ++ rest)) (run_len run rest h z) ∙ take-append_seam run rest
 
+-- a byte of a run is no space and begins no comment
 plain_byte : (b : ℕ) → is_run_byte b ≡ true → (is_hash b ≡ false) × (is_space b ≡ false)
 plain_byte b w = (grind arith, grind arith)
 
+-- a run at the front gives its token
 run_front : (place : ℕ) (run rest : List ℕ) (kind : TokenKind) → 0 < length run → list_all is_run_byte run ≡ true → prefix_len is_run_byte rest ≡ 0 → run_kind run ≡ Ok kind
     → scan false place (run ++ rest) ≡ with_front (record { kind = kind; start = place; end = place + length run } ∷ []) (scan false (place + length run) rest)
 run_front place [] rest kind some h z reads = absurd (omega arith)
@@ -54,14 +57,17 @@ run_front place (b ∷ bs) rest kind some h z reads =
     ∙ ap (λ (k : Result TokenKind Cause). with_reading (in_column (place + 1) (spanned place (place + length (b ∷ bs)) k)) (scan false (place + length (b ∷ bs)) (drop (length (b ∷ bs)) (b ∷ bs ++ rest)))) reads
     ∙ ap (λ (xs : List ℕ). with_front (record { kind = kind; start = place; end = place + length (b ∷ bs) } ∷ []) (scan false (place + length (b ∷ bs)) xs)) (drop-append_seam (b ∷ bs) rest)
 
+-- after a run comes a space or nothing
 no_run_after : (runs : List Run) → prefix_len is_run_byte (after_space runs) ≡ 0
 no_run_after [] = refl
 no_run_after (run ∷ runs) = refl
 
+-- a space gives nothing
 space_gives_none : (place : ℕ) (bs : List ℕ) → scan false place (32 ∷ bs) ≡ scan false (place + 1) bs
 unfolding scan
 space_gives_none place bs = refl
 
+-- the tokens of spaced runs, from a place on
 scanned : (place : ℕ) (runs : List Run) → AreRuns runs → scan false place (spaced runs) ≡ Ok (tokens_at place runs)
 scanned place [] all = scan_end false place
 scanned place (run ∷ []) all =
@@ -72,11 +78,13 @@ scanned place (run ∷ next ∷ runs) all =
     ∙ ap (with_front (record { kind = run.1; start = place; end = place + length run.0 } ∷ []))
     (space_gives_none (place + length run.0) (next.0 ++ after_space runs) ∙ scanned (place + length run.0 + 1) (next ∷ runs) all.1)
 
+-- a line of runs gives their tokens
 pub gives_tokens : (runs : List Run) → AreRuns runs → tokens_of (spaced runs) ≡ Ok (tokens_at 0 runs)
 gives_tokens runs all = line_scanned (spaced runs) ∙ scanned 0 runs all
 
 -- ---- the text of each token
 
+-- the text between the places of a token
 text_of : (line front text rest : List ℕ) (place : ℕ) → line ≡ front ++ (text ++ rest) → place ≡ length front → slice_range line place (place + length text) ≡ text
 text_of line front text rest place is at =
     let n : place + length text - place ≡ length text = omega arith in
@@ -84,6 +92,7 @@ text_of line front text rest place is at =
     ∙ ap (λ (xs : List ℕ). take (length text) xs) (ap (λ (xs : List ℕ). drop place xs) is ∙ ap (λ (k : ℕ). drop k (front ++ (text ++ rest))) at ∙ drop-append_seam front (text ++ rest))
     ∙ take-append_seam text rest
 
+-- each token is read by its kind and its text
 pub each_read : {W : Type 0} (f : TokenKind → List ℕ → W) (line front : List ℕ) (place : ℕ) (runs : List Run) → line ≡ front ++ spaced runs → place ≡ length front
     → map (λ t. f t.kind (slice_range line t.start t.end)) (tokens_at place runs) ≡ map (λ run. f run.1 run.0) runs
 each_read {W} f line front place [] is at = refl
@@ -99,9 +108,11 @@ each_read {W} f line front place (run ∷ next ∷ runs) is at =
 abbrev is_unbroken : ℕ → Bool
 is_unbroken b = not (eqb b 10) && not (eqb b 13)
 
+-- such a byte is neither LF nor CR
 unbroken : (b : ℕ) → is_unbroken b ≡ true → (eqb b 10 ≡ false) × (eqb b 13 ≡ false)
 unbroken b h = let parts = and_parts (not (eqb b 10)) (not (eqb b 13)) h in (not-true (eqb b 10) parts.0, not-true (eqb b 13) parts.1)
 
+-- a line up to its LF is the first piece
 first_piece : (line rest : List ℕ) → list_all is_unbroken line ≡ true → pieces (line ++ 10 ∷ rest) ≡ line ∷ pieces rest
 first_piece [] rest h = refl
 first_piece (b ∷ line) rest h =
@@ -109,11 +120,13 @@ first_piece (b ∷ line) rest h =
     let plain = unbroken b parts.0 in
     rw plain.0 (ap (onto_first b) (first_piece line rest parts.1))
 
+-- a line without a CR stays
 no_cr : (line : List ℕ) → list_all is_unbroken line ≡ true → without_cr line ≡ line
 no_cr [] h = refl
 no_cr (b ∷ []) h = let plain = unbroken b (and_parts (is_unbroken b) true h).0 in rw plain.1 refl
 no_cr (b ∷ c ∷ line) h = ap (λ (l : List ℕ). b ∷ l) (no_cr (c ∷ line) (and_parts (is_unbroken b) (list_all is_unbroken (c ∷ line)) h).1)
 
+-- a run has no LF and no CR
 run_unbroken : (run : List ℕ) → list_all is_run_byte run ≡ true → list_all is_unbroken run ≡ true
 run_unbroken [] h = refl
 run_unbroken (b ∷ bs) h =
@@ -123,13 +136,16 @@ run_unbroken (b ∷ bs) h =
     byte : (b : ℕ) → is_run_byte b ≡ true → is_unbroken b ≡ true
     byte b w = grind arith
 
+-- nor have two texts that have none
 both_unbroken : (xs ys : List ℕ) → list_all is_unbroken xs ≡ true → list_all is_unbroken ys ≡ true → list_all is_unbroken (xs ++ ys) ≡ true
 both_unbroken xs ys hx hy = list_all-append is_unbroken xs ys ∙ and_from (list_all is_unbroken xs) (list_all is_unbroken ys) hx hy
 
+-- nor have runs with spaces
 after_unbroken : (runs : List Run) → AreRuns runs → list_all is_unbroken (after_space runs) ≡ true
 after_unbroken [] all = refl
 after_unbroken (run ∷ runs) all = both_unbroken run.0 (after_space runs) (run_unbroken run.0 all.0.plain) (after_unbroken runs all.1)
 
+-- nor has a printed line
 spaced_unbroken : (runs : List Run) → AreRuns runs → list_all is_unbroken (spaced runs) ≡ true
 spaced_unbroken [] all = refl
 spaced_unbroken (run ∷ runs) all = both_unbroken run.0 (after_space runs) (run_unbroken run.0 all.0.plain) (after_unbroken runs all.1)
@@ -143,12 +159,14 @@ first_line runs rest all =
 
 -- ---- which runs those are
 
+-- digits are bytes of runs
 digit_is_plain : (ds : List ℕ) → list_all is_ascii_digit ds ≡ true → list_all is_run_byte ds ≡ true
 digit_is_plain [] h = refl
 digit_is_plain (d ∷ ds) h =
     let both = and_parts (is_ascii_digit d) (list_all is_ascii_digit ds) h in
     both_true (rw both.0 refl) (digit_is_plain ds both.1)
 
+-- the digits of a number are ASCII digits
 all_digits : (ds : List ℕ) → AllDigits 10 ds → list_all is_ascii_digit ds ≡ true
 all_digits [] h = refl
 all_digits (d ∷ ds) h = both_true (digit_test d h.0) (all_digits ds h.1)
@@ -156,6 +174,7 @@ all_digits (d ∷ ds) h = both_true (digit_test d h.0) (all_digits ds h.1)
     digit_test : (d : ℕ) → digit_value d < 10 → is_ascii_digit d ≡ true
     digit_test d h = let r = digit_from_value d h in grind (arith, r)
 
+-- the first of them is one
 first_is_digit : (ds : List ℕ) → 0 < length ds → list_all is_ascii_digit ds ≡ true → is_ascii_digit (slice_index ds 0) ≡ true
 first_is_digit [] some h = absurd (omega arith)
 first_is_digit (d ∷ ds) some h = (and_parts (is_ascii_digit d) (list_all is_ascii_digit ds) h).0

@@ -2,13 +2,10 @@
 use Rattle.std.proofs.Common.{ℕ, zero, suc, ◌+◌, ◌-◌, ◌*◌, ◌/◌, ◌%◌, ◌^◌, ◌<◌, ◌≤◌, ◌≡◌, refl, sym, ap, subst, ◌∙◌, arith}
 use Rattle.std.specs.Prelude.{bit_and}
 use Rattle.std.proofs.lemmas.Nat.{pow_pos, pow-add, and_mask}
-use Rattle.std.proofs.Math.Nat.{mul_comm, pow-suc, div-div-eq-div-mul, mod-eq_of_lt, mod-lt, pow-le-pow_right, mul-le-mul_right, mul-le-mul_left, add-mul-mod_self_left, add-mul-div_left, div-eq_of_lt}
+use Rattle.std.proofs.Math.Nat.{mul_comm, pow-suc, div-div-eq-div-mul, mod-eq_of_lt, pow-le-pow_right, mul-le-mul_right, mul-le-mul_left, add-mul-div_left, div-eq_of_lt}
 use Rattle.field_decl.specs.KBits.{spread_bits, gathered_bits}
 
--- a digit below w, and what stands above it
-pub low_of : (a w r : ℕ) → a < w → (a + w * r) % w ≡ a
-low_of a w r h = add-mul-mod_self_left a w r ∙ mod-eq_of_lt h
-
+-- what stands above a digit below w
 pub high_of : (a w r : ℕ) → a < w → (a + w * r) / w ≡ r
 high_of a w r h = let pos : 0 < w = omega arith in omega (arith, add-mul-div_left a r pos, div-eq_of_lt h)
 
@@ -22,14 +19,16 @@ low_bit (suc s) k x h = rw (pow-suc, mul_comm (2 ^ s) 2) (go (k % 2) (2 ^ s) (po
     go (suc zero) p g e = omega arith
     go (suc (suc b)) p g e = absurd (omega arith)
 
-other_bits : (s k x : ℕ) → (k % 2 * (2 ^ s - 1) + 2 ^ s * x) / 2 ^ s ≡ x
-other_bits s k x = high_of (k % 2 * (2 ^ s - 1)) (2 ^ s) x (go (k % 2) (2 ^ s) (pow_pos s) (omega arith))
-  where
-    go : (b p : ℕ) → 0 < p → b < 2 → b * (p - 1) < p
-    go zero p g e = omega arith
-    go (suc zero) p g e = omega arith
-    go (suc (suc b)) p g e = absurd (omega arith)
+-- a K bit on its share is below the next share
+lowest : (b p : ℕ) → 0 < p → b < 2 → b * (p - 1) < p
+lowest zero p g e = omega arith
+lowest (suc zero) p g e = omega arith
+lowest (suc (suc b)) p g e = absurd (omega arith)
 
+pub other_bits : (s k x : ℕ) → (k % 2 * (2 ^ s - 1) + 2 ^ s * x) / 2 ^ s ≡ x
+other_bits s k x = high_of (k % 2 * (2 ^ s - 1)) (2 ^ s) x (lowest (k % 2) (2 ^ s) (pow_pos s) (omega arith))
+
+-- gathering gives the K bits back
 pub gathered_spread : (s n k : ℕ) → 0 < s → k < 2 ^ n → gathered_bits s n (spread_bits s n k) ≡ k
 unfolding spread_bits gathered_bits
 gathered_spread s zero k h p = omega arith
@@ -49,17 +48,14 @@ bound x v q p h g =
     let e : suc x * q ≤ p * q = mul-le-mul_right q h in
     omega arith
 
+-- a shift by at most 32 does not wrap
 top64 : (s : ℕ) → s ≤ 32 → 1 * 2 ^ s % 18446744073709551616 ≡ 2 ^ s
 top64 s h =
     let small : 2 ^ s ≤ 2 ^ 32 = pow-le-pow_right (omega arith) h in
     let e : 1 * 2 ^ s ≡ 2 ^ s = omega arith in
     rw e (mod-eq_of_lt (omega arith))
 
-lowest : (b p : ℕ) → 0 < p → b < 2 → b * (p - 1) < p
-lowest zero p g e = omega arith
-lowest (suc zero) p g e = omega arith
-lowest (suc (suc b)) p g e = absurd (omega arith)
-
+-- the mask of n K bits is below the power of their shares
 pub spread_below : (s n k : ℕ) → spread_bits s n k < 2 ^ (s * n)
 unfolding spread_bits
 spread_below s zero k = pow_pos (s * 0)
@@ -70,19 +66,23 @@ spread_below s (suc n) k =
     let h : spread_bits s n (k / 2) * 2 ^ s + k % 2 * (2 ^ s - 1) < 2 ^ s * 2 ^ (s * n) = bound (spread_bits s n (k / 2)) (k % 2 * (2 ^ s - 1)) (2 ^ s) (2 ^ (s * n)) (spread_below s n (k / 2)) low in
     rw p (omega arith)
 
--- two times s is within s * count, where two turns at least are made
+-- a share is no wider than the bus
 span_le : (s count : ℕ) → 0 < count → s * count ≤ 32 → s ≤ 32
 span_le s zero h narrow = absurd (omega arith)
 span_le s (suc count) h narrow = omega arith
 
+-- what is left fits with one share more
 rest_le : (s count j : ℕ) → suc j ≤ count → s * count ≤ 32 → s + s * (count - suc j) ≤ 32
 rest_le s count j h narrow =
     let e : count ≡ suc (count - suc j) + j = omega arith in
     let f : s * count ≡ s * (suc (count - suc j) + j) = ap (λ (x : ℕ). s * x) e in
     omega arith
 
+-- K bits from the next place on
 halved : (k j : ℕ) → k / 2 ^ suc j ≡ k / 2 ^ j / 2
 halved k j = rw (pow-suc, ← div-div-eq-div-mul k (2 ^ j) 2)
+
+-- ---- the loop that spreads
 
 pub spread_turn : (s count k j mask b : ℕ) → suc j ≤ count → s * count ≤ 32 → b ≡ k / 2 ^ j % 2 → mask ≡ spread_bits s (count - suc j) (k / 2 ^ suc j)
     → mask * 2 ^ s % 18446744073709551616 + b * (1 * 2 ^ s % 18446744073709551616 - 1) ≡ spread_bits s (count - j) (k / 2 ^ j)
@@ -98,6 +98,7 @@ spread_turn s count k j mask b h narrow eb e =
     let less : mask * 2 ^ s < 18446744073709551616 = omega (arith, pow-add 2 s (s * r)) in
     rw (c, mod-eq_of_lt less, top64 s (span_le s count (omega arith) narrow), eb, e, same) (omega arith)
 
+-- the mask so far fits
 pub spread_fits : (s count k j : ℕ) → s * count ≤ 32 → spread_bits s (count - j) (k / 2 ^ j) < 18446744073709551616
 spread_fits s count k j narrow =
     let less : s * (count - j) ≤ s * count = mul-le-mul_left s (omega arith) in
@@ -105,13 +106,16 @@ spread_fits s count k j narrow =
     let small : 2 ^ (s * (count - j)) ≤ 2 ^ 32 = pow-le-pow_right (omega arith) fits in
     omega (arith, spread_below s (count - j) (k / 2 ^ j))
 
+-- no K bits yet
 pub spread_none : (s n k : ℕ) → 0 ≡ spread_bits s (n - n) k
 unfolding spread_bits
 spread_none s n k = let e : n - n ≡ 0 = omega arith in rw e
 
+-- the lowest bit
 pub bit_is : (x : ℕ) → bit_and x 1 ≡ x % 2
 bit_is x = and_mask x 1
 
+-- all K bits
 pub spread_done : (s count k j mask : ℕ) → j ≡ 0 → mask ≡ spread_bits s (count - j) (k / 2 ^ j) → mask < 2 ^ (s * count)
 spread_done s count k j mask z e =
     let all : count - j ≡ count = omega arith in
@@ -120,6 +124,7 @@ spread_done s count k j mask z e =
 
 -- ---- the loop that gathers
 
+-- one K bit more
 pub gathered_turn : (s count mask j kbits b : ℕ) → suc j ≤ count → b ≡ mask / 2 ^ (j * s) % 2 → kbits ≡ gathered_bits s (count - suc j) (mask / 2 ^ (suc j * s))
     → 2 * kbits + b ≡ gathered_bits s (count - j) (mask / 2 ^ (j * s))
 unfolding gathered_bits
@@ -131,6 +136,7 @@ gathered_turn s count mask j kbits b h eb e =
     let rest : mask / 2 ^ (suc j * s) ≡ mask / 2 ^ (j * s) / 2 ^ s = ap (λ (x : ℕ). mask / x) power ∙ sym (div-div-eq-div-mul mask (2 ^ (j * s)) (2 ^ s)) in
     rw (c, eb, e, rest) (omega arith)
 
+-- no K bits yet
 pub gathered_none : (s n mask : ℕ) → 0 ≡ gathered_bits s (n - n) mask
 unfolding gathered_bits
 gathered_none s n mask = let e : n - n ≡ 0 = omega arith in rw e refl
@@ -140,6 +146,7 @@ pub count_le : (s count : ℕ) → 0 < s → s * count ≤ 32 → count ≤ 32
 count_le zero count h narrow = absurd (omega arith)
 count_le (suc s) count h narrow = let e : suc s * count ≡ count + s * count = omega arith in omega arith
 
+-- the K bits so far fit
 pub gathered_fits : (s count mask j : ℕ) → 0 < s → s * count ≤ 32 → gathered_bits s (count - j) mask < 4294967296
 gathered_fits s count mask j h narrow =
     let few : count ≤ 32 = count_le s count h narrow in

@@ -2,7 +2,6 @@
 use Rattle.std.specs.Prelude.{ℕ, ◌+◌, ◌-◌, ◌/◌}
 use Rattle.field_decl.specs.declared.decl.Decl.{Decl}
 use Rattle.field_decl.specs.Declaration.{Declaration}
-use Rattle.field_decl.specs.Fields.{word_bits}
 
 abbrev pub declaration_of : Decl → Declaration
 declaration_of decl = record { slices = decl.slices; kbus = decl.kbus; fields = decl.fields; prom_words = decl.prom_words; prom_bits = decl.prom_bits; write = decl.write }

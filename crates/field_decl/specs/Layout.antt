@@ -1,5 +1,5 @@
 -- The layout file: what a text declares, or its first refused line. This is this project's own format.
-use Rattle.std.specs.Prelude.{◌≡◌, ℕ, ◌+◌, List, [], ◌∷◌, ◌++◌, length, Option, Some, None, Result, Ok, Err}
+use Rattle.std.specs.Prelude.{ℕ, ◌+◌, List, [], ◌∷◌, ◌++◌, length, Option, Some, None, Result, Ok, Err}
 use Rattle.std.specs.List.{filter_map}
 use Rattle.micro_lex.specs.Lines.{lines}
 use Rattle.field_decl.specs.declared.word.Word.{Word}
@@ -10,12 +10,9 @@ use Rattle.field_decl.specs.declared.fault.AsmKind.TheVariants as kinds
 use Rattle.field_decl.specs.Declaration.{Declaration}
 use Rattle.field_decl.specs.Earlier.{Declared, declared_by, declaration_with}
 use Rattle.field_decl.specs.Directives.{directive_form}
-use Rattle.field_decl.specs.Judging.{refusal, judged}
+use Rattle.field_decl.specs.Judging.{refusal}
 use Rattle.field_decl.specs.Results.{◌>>=◌, unless_refused, in_line}
 use Rattle.field_decl.specs.Words.{words_of}
-
-abbrev pub some_directive : Directive → Option Directive
-some_directive directive = Some directive
 
 abbrev pub said : Directive → Result (Option Directive) AsmKind
 said directive = Ok (Some directive)
@@ -56,17 +53,3 @@ completed declared = completed_with declared.slices declared
 -- what a layout text declares, or the first refused line; a missing slices line is told at line 0
 abbrev pub layout_of : List ℕ → Result Declaration (ℕ × AsmKind)
 layout_of bytes = lines_read [] (lines bytes) >>= λ read. in_line 0 (completed (declared_by (directives_in read)))
-
--- ---- the same, going from what is declared to what is declared
-
--- what is declared after a line that says this
-abbrev pub line_judged : Declared → Option Directive → Result Declared AsmKind
-line_judged declared None = Ok declared
-line_judged declared (Some directive) = judged declared directive
-
-unfoldable pub after_line : Declared → List ℕ → Result Declared AsmKind
-after_line declared line = words_of line >>= line_form >>= line_judged declared
-
-unfoldable pub after_lines : Declared → ℕ → List (List ℕ) → Result Declared (ℕ × AsmKind)
-after_lines declared number [] = Ok declared
-after_lines declared number (line ∷ rest) = in_line number (after_line declared line) >>= λ more. after_lines more (number + 1) rest

@@ -1,5 +1,5 @@
 -- The layout text of a declaration. This is this project's own format.
-use Rattle.std.specs.Prelude.{ℕ, List, [], ◌∷◌, ◌++◌, Option, Some, None, codes, decimal, map, slice_get}
+use Rattle.std.specs.Prelude.{ℕ, List, [], ◌∷◌, ◌++◌, Option, Some, None, codes, decimal, slice_get}
 use Rattle.micro_lex.specs.declared.token.TokenKind.TheVariants.{Name, Number}
 use Rattle.field_decl.specs.Spaced.{Run, spaced}
 use Rattle.field_decl.specs.declared.field.Field.{Field}

@@ -9,6 +9,7 @@ pub mod Earlier
 pub mod DeclStateView
 pub mod Judging
 pub mod Layout
+pub mod LayoutSteps
 pub mod Spaced
 pub mod LayoutText
 pub mod KBits

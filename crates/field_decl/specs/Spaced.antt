@@ -1,5 +1,5 @@
 -- A line as it is printed: runs with one space between each two.
-use Rattle.std.specs.Prelude.{◌≡◌, ℕ, ◌+◌, ◌<◌, true, List, [], ◌∷◌, ◌++◌, length, Result, Ok}
+use Rattle.std.specs.Prelude.{◌≡◌, ℕ, ◌+◌, ◌<◌, true, List, [], ◌∷◌, ◌++◌, length, Ok}
 use Rattle.std.specs.List.{list_all, AllByRecursion}
 use Rattle.micro_lex.specs.declared.token.Token.{Token}
 use Rattle.micro_lex.specs.declared.token.TokenKind.{TokenKind}

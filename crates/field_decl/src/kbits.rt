@@ -1,6 +1,6 @@
 //! The K bits of a microword on the K bus.
 
-ghost use Rattle.std.specs.Prelude.{◌≡◌, ℕ, ◌+◌, ◌*◌, ◌^◌, ◌<◌, ◌≤◌, Some, IfSome};
+ghost use Rattle.std.specs.Prelude.{◌≡◌, ℕ, ◌+◌, ◌*◌, ◌/◌, ◌%◌, ◌^◌, ◌<◌, ◌≤◌, Some, IfSome};
 ghost use Rattle.field_decl.specs.KBits.{spread_bits, gathered_bits, share_of, spread_of, IsGathered};
 
 use crate::decl::Decl;
@@ -52,6 +52,7 @@ pub fn spread(decl: &Decl, kbits: u32) -> u32
     requires { kbits < 2 ^ decl.now.kbus }
     ensures mask { result ≡ spread_of decl.now kbits }
     ensures below { result < 2 ^ (2 * decl.now.slices) }
+    ensures driven { (bit : ℕ) → bit < 2 * decl.now.slices → result / 2 ^ bit % 2 ≡ kbits / 2 ^ (bit / share_of decl.now) % 2 }
 {
     spread_bits(share(decl), decl.kbus as u32, kbits) as u32
 }

@@ -4,7 +4,8 @@ ghost use Rattle.std.specs.Prelude.{◌≡◌, ◌<◌, ◌^◌, [], length};
 ghost use Rattle.micro_lex.specs.Lines.{lines};
 ghost use Rattle.field_decl.specs.Decls.{declaration_of};
 ghost use Rattle.field_decl.specs.Earlier.{declared_by};
-ghost use Rattle.field_decl.specs.Layout.{line_form, after_line, after_lines, layout_of};
+ghost use Rattle.field_decl.specs.Layout.{line_form, layout_of};
+ghost use Rattle.field_decl.specs.LayoutSteps.{after_line, after_lines};
 ghost use Rattle.field_decl.specs.Results.{Gives, GivesText, fault_at};
 
 use crate::decl::Decl;
@@ -31,7 +32,7 @@ fn line_form(words: &[Word]) -> Result<Option<Directive>, AsmKind>
 }
 
 /// Takes one line more of a layout.
-#[tactic(auto, unfolding(crate::specs::Layout::after_line))]
+#[tactic(auto, unfolding(crate::specs::LayoutSteps::after_line))]
 fn take_line(alloc: Global, state: &mut DeclState, line: &[u8]) -> Result<(), LineFault>
     requires { length line.now < 2 ^ 32 }
     ensures { Gives (λ _. state.new) result (after_line state.old line.now) }
@@ -55,7 +56,7 @@ fn fault_at(line: u32, fault: LineFault) -> DeclFault
 }
 
 /// Takes all lines of a layout.
-#[tactic(auto, unfolding(crate::specs::Layout::after_lines))]
+#[tactic(auto, unfolding(crate::specs::LayoutSteps::after_lines))]
 fn take_lines(alloc: Global, bytes: &[u8]) -> Result<DeclState, DeclFault>
     requires { length bytes.now < 2 ^ 32 }
     ensures { GivesText (λ state. state) result (after_lines (declared_by []) 1 (lines bytes.now)) }

@@ -94,6 +94,7 @@ fn layouts_are_refused(rt: HostRuntime) -> Result<(), Fail> {
         (b"field f 1 0\nwrite f\nwrite f", 3, AsmKind::WriteField),
     ];
     for (text, line, kind) in table {
+        assert!(rt; text.len() < 100);
         assert_eq!(rt;
             read_decl(rt.alloc(), text).err(),
             Some(DeclFault::At { line, kind })

@@ -1,17 +1,20 @@
 -- The first line of a text, as `next_line` finds it.
-use Rattle.std.proofs.Common.{◌≡◌, ℕ, zero, suc, ◌+◌, ◌-◌, ◌≤◌, ◌<◌, Bool, true, false, not, cond, eqb, List, [], ◌∷◌, ◌++◌, length, get_or, take, drop, refl, sym, ap, subst, ◌∙◌, eq-eqb, min, arith, inl, inr}
+use Rattle.std.proofs.Common.{◌≡◌, ℕ, zero, suc, ◌+◌, ◌-◌, ◌≤◌, ◌<◌, eqb, List, [], ◌∷◌, length, get_or, take, drop, refl, sym, ap, ◌∙◌, eq-eqb, min, arith, inl, inr}
 use Rattle.std.specs.List.{prefix_len}
 use Rattle.std.specs.Prelude.{map}
 use Rattle.std.proofs.lemmas.Bool.{cases_Bool, cases_lt, ne_eqb}
 use Rattle.std.proofs.lemmas.List.{get_or-take, get_or-drop, length-take, length-drop, take-take, drop-drop, drop_all}
 use Rattle.micro_lex.specs.Lines.{pieces, onto_first, without_cr, lines, is_not_lf}
 
+-- a front that is one longer, dropped
 drop_one : (p b : ℕ) (bs : List ℕ) → drop (1 + p) (b ∷ bs) ≡ drop p bs
 drop_one p b bs = let e : 1 + p ≡ suc p = omega arith in rw e refl
 
+-- and taken
 take_one : (p b : ℕ) (bs : List ℕ) → take (1 + p) (b ∷ bs) ≡ b ∷ take p bs
 take_one p b bs = let e : 1 + p ≡ suc p = omega arith in rw e refl
 
+-- a byte before the first piece lengthens it
 joined : (b : ℕ) (bs : List ℕ) (p : ℕ) → pieces bs ≡ take p bs ∷ pieces (drop (p + 1) bs) → onto_first b (pieces bs) ≡ take (1 + p) (b ∷ bs) ∷ pieces (drop (1 + p + 1) (b ∷ bs))
 joined b bs p h =
     let e2 : 1 + p + 1 ≡ suc (p + 1) = omega arith in
@@ -35,6 +38,7 @@ cr_goes zero (b ∷ c ∷ bs) e h = absurd (omega arith)
 cr_goes (suc n) (b ∷ []) e h = absurd (omega arith)
 cr_goes (suc n) (b ∷ c ∷ bs) e h = ap (λ (l : List ℕ). b ∷ l) (cr_goes n (c ∷ bs) (omega arith) h)
 
+-- a last byte that is no CR stays
 pub other_stays : (n : ℕ) (xs : List ℕ) → length xs ≡ suc n → (get_or xs n 0 ≡ 13 → ⊥) → without_cr xs ≡ xs
 other_stays n [] e h = refl
 other_stays zero (b ∷ []) e h = rw (ne_eqb b 13 h) refl
@@ -48,9 +52,11 @@ last_of bytes start stop n le e =
     let at : stop - 1 ≡ start + n = omega arith in
     rw (get_or-take (stop - start) (drop start bytes) n 0 (omega arith), get_or-drop, at) refl
 
+-- how long the piece is
 piece_len_is : (bytes : List ℕ) (start stop n : ℕ) → stop ≤ length bytes → stop ≡ start + suc n → length (take (stop - start) (drop start bytes)) ≡ suc n
 piece_len_is bytes start stop n le e = omega (arith, length-take (stop - start) (drop start bytes), length-drop start bytes)
 
+-- a piece that ends in a CR is kept without it
 pub kept_goes : (bytes : List ℕ) (start stop : ℕ) → start < stop → stop ≤ length bytes → get_or bytes (stop - 1) 0 ≡ 13 → take (stop - 1 - start) (drop start bytes) ≡ without_cr (take (stop - start) (drop start bytes))
 kept_goes bytes start stop lt le h =
     let n : ℕ = stop - 1 - start in
@@ -58,15 +64,18 @@ kept_goes bytes start stop lt le h =
     let cut = cr_goes n (take (stop - start) (drop start bytes)) (piece_len_is bytes start stop n le e) (last_of bytes start stop n le e ∙ h) in
     sym (cut ∙ take-take n (stop - start) (drop start bytes) (omega arith))
 
+-- any other piece is kept whole
 pub kept_stays : (bytes : List ℕ) (start stop : ℕ) → start < stop → stop ≤ length bytes → (get_or bytes (stop - 1) 0 ≡ 13 → ⊥) → take (stop - start) (drop start bytes) ≡ without_cr (take (stop - start) (drop start bytes))
 kept_stays bytes start stop lt le h =
     let n : ℕ = stop - 1 - start in
     let e : stop ≡ start + suc n = omega arith in
     sym (other_stays n (take (stop - start) (drop start bytes)) (piece_len_is bytes start stop n le e) (λ same. h (sym (last_of bytes start stop n le e) ∙ same)))
 
+-- an empty piece stays empty
 pub nothing_stays : (bytes : List ℕ) (start stop : ℕ) → stop ≤ start → take (stop - start) (drop start bytes) ≡ without_cr (take (stop - start) (drop start bytes))
 nothing_stays bytes start stop le = let e : stop - start ≡ 0 = omega arith in rw e refl
 
+-- the line that `next_line` finds, and the lines after it
 pub line_cut : (bytes : List ℕ) (at stop end after : ℕ) → at < length bytes → stop ≡ at + prefix_len is_not_lf (drop at bytes) → stop ≤ length bytes
     → take (end - at) (drop at bytes) ≡ without_cr (take (stop - at) (drop at bytes)) → after ≡ min (stop + 1) (length bytes)
     → lines (drop at bytes) ≡ take (end - at) (drop at bytes) ∷ lines (drop after bytes)

@@ -1,7 +1,6 @@
 -- One step of the reading of a line: past a space, past a token, or to the faulty place.
-use Rattle.std.proofs.Common.{◌≡◌, ℕ, ◌+◌, ◌-◌, ◌≤◌, ◌<◌, Bool, true, false, cond, List, [], ◌∷◌, ◌++◌, All, length, get_or, take, drop, Option, Some, None, Result, Ok, Err, refl, sym, ap, subst, ◌∙◌, append_assoc, add-one, arith, eqb, eq-eqb, inl, inr}
-use Rattle.std.specs.Prelude.{take_while, slice_index, slice_range}
-use Rattle.std.specs.List.{prefix_len}
+use Rattle.std.proofs.Common.{◌≡◌, ℕ, ◌+◌, ◌-◌, ◌≤◌, ◌<◌, Bool, true, false, cond, List, [], ◌∷◌, ◌++◌, All, length, get_or, take, drop, Option, Some, None, Result, Ok, Err, refl, sym, ap, subst, ◌∙◌, append_assoc, add-one, arith, eq-eqb, inl, inr}
+use Rattle.std.specs.Prelude.{take_while, slice_range}
 use Rattle.std.proofs.Math.Seq.{drop-cons}
 use Rattle.std.proofs.lemmas.Bool.{cases_Bool, ne_eqb}
 use Rattle.std.proofs.lemmas.List.{append-nil, drop-drop, drop_all, length-drop}
@@ -14,7 +13,7 @@ use Rattle.micro_lex.specs.declared.token.TokenKind.TheVariants.{Name}
 use Rattle.micro_lex.specs.declared.fault.LexFault.{LexFault}
 use Rattle.micro_lex.specs.declared.fault.LexFault.TheVariants as faults
 use Rattle.micro_lex.specs.Alphabet.{is_run_byte, is_space, is_hash}
-use Rattle.micro_lex.specs.Faults.{Cause, BadByte, Fault, in_column, Reports, Gives}
+use Rattle.micro_lex.specs.Faults.{Cause, Fault, in_column, Reports}
 use Rattle.micro_lex.specs.Names.{IsName, IsTokenOf}
 use Rattle.micro_lex.specs.Reading.{token_at}
 use Rattle.micro_lex.specs.Runs.{run_kind}
@@ -90,13 +89,16 @@ step line place found lt h e =
 abbrev found_tokens : List Token → Result (List Token) Fault
 found_tokens found = Ok found
 
+-- one token more at the front of the others
 regroup : (front : List Token) (token : Token) (others : Result (List Token) Fault) → with_front front (with_front (token ∷ []) others) ≡ with_front (front ++ token ∷ []) others
 regroup front token (Ok others) = ap found_tokens (sym (append_assoc front (token ∷ []) others))
 regroup front token (Err fault) = refl
 
+-- no further tokens
 ended : (front : List Token) → with_front front (Ok []) ≡ Ok front
 ended front = ap found_tokens (append-nil front)
 
+-- no tokens before the others
 with_nothing : (others : Result (List Token) Fault) → with_front [] others ≡ others
 with_nothing (Ok others) = refl
 with_nothing (Err fault) = refl
@@ -107,10 +109,12 @@ begun line = with_nothing (scan false 0 line) ∙ sym (line_scanned line)
 
 -- ---- the steps of the loop, which keep what the whole line gives
 
+-- past a space
 pub over_gap : (front : List Token) (line : List ℕ) (place : ℕ) (total : Result (List Token) Fault) → place < length line → (get_or line place 0 ≡ 35 → ⊥) → token_at line place ≡ Ok None
     → with_front front (scan false place (drop place line)) ≡ total → with_front front (scan false (place + 1) (drop (place + 1) line)) ≡ total
 over_gap front line place total lt h e so_far = ap (with_front front) (sym (step line place (Ok None) lt h e)) ∙ so_far
 
+-- past a token
 pub over_token : (front : List Token) (line : List ℕ) (place : ℕ) (token : Token) (total : Result (List Token) Fault) → place < length line → (get_or line place 0 ≡ 35 → ⊥) → token_at line place ≡ Ok (Some token)
     → with_front front (scan false place (drop place line)) ≡ total → with_front (front ++ token ∷ []) (scan false token.end (drop token.end line)) ≡ total
 over_token front line place token total lt h e so_far =
@@ -124,15 +128,18 @@ same_fault (faults.BadNumber column) reading total same r = same _ r
 same_fault (faults.NumberTooWide column) reading total same r = same _ r
 same_fault (faults.NameTooLong column) reading total same r = same _ r
 
+-- at a fault
 pub at_fault : (front : List Token) (line : List ℕ) (place : ℕ) (fault : LexFault) (total : Result (List Token) Fault) → place < length line → (get_or line place 0 ≡ 35 → ⊥)
     → with_front front (scan false place (drop place line)) ≡ total → Reports fault (token_at line place) → Reports fault total
 at_fault front line place fault total lt h so_far r =
     same_fault fault (token_at line place) total (λ found e. sym so_far ∙ ap (with_front front) (step line place (Err found) lt h e)) r
 
+-- at the line's end
 pub is_done : (front : List Token) (line : List ℕ) (place : ℕ) (total : Result (List Token) Fault) → length line ≤ place → with_front front (scan false place (drop place line)) ≡ total → total ≡ Ok front
 is_done front line place total le so_far =
     sym so_far ∙ ap (with_front front) (ap (scan false place) (drop_all place line le) ∙ scan_end false place) ∙ ended front
 
+-- at the comment
 pub is_cut : (front : List Token) (line : List ℕ) (place : ℕ) (total : Result (List Token) Fault) → place < length line → get_or line place 0 ≡ 35 → with_front front (scan false place (drop place line)) ≡ total → total ≡ Ok front
 is_cut front line place total lt h so_far =
     sym so_far ∙ ap (with_front front) (ap (scan false place) (split line place lt) ∙ scan_hash false place (get_or line place 0) (drop (place + 1) line) (eq-eqb (get_or line place 0) 35 h)) ∙ ended front
@@ -147,6 +154,7 @@ pub record IsTokenAt (line : List ℕ) (place : ℕ) (token : Token) : Type 0 wh
 abbrev as_kind : TokenKind → Result TokenKind Cause
 as_kind kind = Ok kind
 
+-- a token between these places lies there
 made_token : (line : List ℕ) (place end : ℕ) (kind : Result TokenKind Cause) (token : Token) → place < end → end ≤ length line → (kind ≡ Ok Name → IsName (slice_range line place end))
     → in_column (place + 1) (spanned place end kind) ≡ Ok (Some token) → IsTokenAt line place token
 made_token line place end (Ok kind) token lt le named e =
@@ -154,12 +162,15 @@ made_token line place end (Ok kind) token lt le named e =
     subst (λ (t : Token). IsTokenAt line place t) same (record { lies = record { ordered = omega arith; within = le; named = λ n. named (ap as_kind n) }; goes_on = lt })
 made_token line place end (Err cause) token lt le named e = absurd cc
 
+-- a space begins no token
 none_is_none : (token : Token) → (let r : Result (Option Token) Fault = Ok None in r ≡ Ok (Some token)) → ⊥
 none_is_none token e = cc
 
+-- no mark is a name
 mark_names_nothing : (b : ℕ) → mark_kind b ≡ Ok Name → ⊥
 mark_names_nothing b e = grind arith
 
+-- a run has a byte at least
 run_some : (b : ℕ) (bs : List ℕ) → is_run_byte b ≡ true → 0 < length (take_while is_run_byte (b ∷ bs))
 run_some b bs w = rw (take_while-cons is_run_byte b bs, w) (omega arith)
 
@@ -186,5 +197,6 @@ token_lies line place token lt e =
       ]
     ]
 
+-- one token more lies in the line
 pub spans_push : (line : List ℕ) (front : List Token) (token : Token) → All (IsTokenOf line) front → IsTokenOf line token → All (IsTokenOf line) (front ++ token ∷ [])
 spans_push line front token old new = All-push (IsTokenOf line) front token old new

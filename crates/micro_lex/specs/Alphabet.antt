@@ -1,5 +1,5 @@
 -- The bytes of a line by their use. All of this is this project's own choice.
-use Rattle.std.specs.Prelude.{ℕ, Bool, ◌||◌, ◌&&◌, ◌==◌, nat_le}
+use Rattle.std.specs.Prelude.{ℕ, Bool, ◌||◌, ◌==◌}
 use Rattle.std.specs.Char.{is_ascii_digit, is_ascii_uppercase, is_ascii_lowercase}
 
 -- a byte of a run: an ASCII letter, a digit or an underscore

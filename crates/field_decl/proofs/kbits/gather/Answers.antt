@@ -1,5 +1,5 @@
-use Rattle.std.proofs.Common.{ℕ, ◌≡◌, ◌<◌, ◌^◌, Option, Some, None, ap, sym, subst, ◌∙◌}
-use Rattle.field_decl.specs.KBits.{spread_bits, gathered_bits, share_of, spread_of, IsGathered}
+use Rattle.std.proofs.Common.{ℕ, ◌≡◌, ◌<◌, Option, Some, ap, subst, ◌∙◌}
+use Rattle.field_decl.specs.KBits.{gathered_bits, share_of, spread_of}
 use Rattle.field_decl.proofs.SpreadBits.{gathers_back}
 use Rattle.field_decl.proofs.kbits.gather.Goals as goal
 

@@ -1,4 +1,4 @@
-use Rattle.std.proofs.Common.{ℕ, suc, ◌≡◌, ◌<◌, ◌-◌, ◌/◌, ◌%◌, ◌^◌, ◌*◌, arith, subst, sym, ◌∙◌}
+use Rattle.std.proofs.Common.{ℕ, suc, ◌≡◌, ◌<◌, ◌-◌, ◌/◌, ◌^◌, ◌*◌, arith, subst, sym}
 use Rattle.std.specs.Prelude.{bit_and}
 use Rattle.field_decl.specs.KBits.{gathered_bits}
 use Rattle.field_decl.proofs.SpreadBits.{gathered_turn, gathered_fits, gathered_none, gathered_below, bit_is}

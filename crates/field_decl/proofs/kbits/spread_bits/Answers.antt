@@ -1,4 +1,4 @@
-use Rattle.std.proofs.Common.{ℕ, suc, ◌≡◌, ◌<◌, ◌-◌, ◌/◌, ◌%◌, ◌^◌, ◌*◌, arith, subst, ◌∙◌, refl}
+use Rattle.std.proofs.Common.{ℕ, suc, ◌≡◌, ◌-◌, ◌/◌, ◌^◌, arith, subst, ◌∙◌}
 use Rattle.field_decl.specs.KBits.{spread_bits}
 use Rattle.field_decl.proofs.SpreadBits.{spread_turn, spread_fits, spread_none, spread_done, bit_is}
 use Rattle.field_decl.proofs.kbits.spread_bits.Goals as goal

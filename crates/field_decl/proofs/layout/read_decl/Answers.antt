@@ -1,4 +1,4 @@
-use Rattle.std.proofs.Common.{◌≡◌, ◌∙◌, ap}
+use Rattle.std.proofs.Common.{◌∙◌, ap}
 use Rattle.field_decl.specs.Results.{in_line}
 use Rattle.field_decl.proofs.LayoutLaw.{refused_in, completed_in}
 use Rattle.field_decl.proofs.layout.read_decl.Goals as goal

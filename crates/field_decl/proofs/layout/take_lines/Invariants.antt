@@ -1,7 +1,7 @@
-use Rattle.std.proofs.Common.{◌≡◌, ◌-◌, ◌≤◌, ◌+◌, drop, length, List, []}
+use Rattle.std.proofs.Common.{◌≡◌, ◌-◌, ◌≤◌, ◌+◌, drop, length, []}
 use Rattle.micro_lex.specs.Lines.{lines}
 use Rattle.field_decl.specs.Earlier.{declared_by}
-use Rattle.field_decl.specs.Layout.{after_lines}
+use Rattle.field_decl.specs.LayoutSteps.{after_lines}
 use Rattle.field_decl.proofs.layout.take_lines.Given as goal
 
 abbrev pub invariant-loop-span : goal.invariant-loop-span

@@ -1,10 +1,9 @@
-use Rattle.std.proofs.Common.{◌≡◌, sym, arith, ap, ◌∙◌, Result, Ok, Option, Some, None}
+use Rattle.std.proofs.Common.{arith, ap, ◌∙◌, Result, Ok, Option}
 use Rattle.std.proofs.lemmas.List.Elements.{All-nil}
 use Rattle.std.proofs.lemmas.Result.{err_from_is_err_and}
 use Rattle.micro_lex.specs.declared.token.Token.{Token}
-use Rattle.micro_lex.specs.Faults.{Fault, Gives, Reports}
+use Rattle.micro_lex.specs.Faults.{Fault}
 use Rattle.micro_lex.specs.Tokens.{tokens_of}
-use Rattle.micro_lex.proofs.Scan.{scan, line_scanned}
 use Rattle.micro_lex.proofs.Steps.{over_gap, over_token, at_fault, is_done, is_cut, token_lies, spans_push, begun}
 use Rattle.micro_lex.proofs.line_tokens.tokens.Goals as goal
 use Rattle.micro_lex.proofs.line_tokens.tokens.Goals.{then-loop-at-test+else-line-at-ne35, else-loop-at-test}

@@ -1,4 +1,4 @@
-use Rattle.std.proofs.Common.{length, ◌-◌, ◌≡◌, ◌≤◌, drop, Bool, false, All}
+use Rattle.std.proofs.Common.{length, ◌-◌, ◌≡◌, ◌≤◌, drop, false, All}
 use Rattle.micro_lex.specs.Names.{IsTokenOf}
 use Rattle.micro_lex.specs.Tokens.{with_front, tokens_of}
 use Rattle.micro_lex.proofs.Scan.{scan}

@@ -1,4 +1,4 @@
-use Rattle.std.proofs.Common.{◌≡◌, ◌∙◌, sym, subst, ap, List, arith}
+use Rattle.std.proofs.Common.{◌∙◌, sym, subst, ap, List, arith}
 use Rattle.std.specs.Prelude.{unwrap_or}
 use Rattle.field_decl.specs.declared.field.Field.{Field}
 use Rattle.field_decl.specs.Earlier.{Declared, IsSound}

@@ -1,4 +1,4 @@
-use Rattle.std.proofs.Common.{◌≡◌, subst, sym, ◌++◌, List, ℕ, length, drop}
+use Rattle.std.proofs.Common.{subst, sym, ◌++◌, List, ℕ, length, drop}
 use Rattle.std.specs.Prelude.{replicate}
 use Rattle.field_decl.specs.NameBytes.{IsPadded}
 use Rattle.field_decl.proofs.NamePads.{name_pads}
