@@ -1,5 +1,5 @@
 -- The first line of a text, as `next_line` finds it.
-use Rattle.std.proofs.Common.{◌≡◌, ℕ, zero, suc, ◌+◌, ◌-◌, ◌≤◌, ◌<◌, eqb, List, [], ◌∷◌, length, get_or, take, drop, refl, sym, ap, ◌∙◌, eq-eqb, min, arith, inl, inr}
+use Rattle.std.proofs.Common.{◌≡◌, ℕ, zero, suc, ◌+◌, ◌-◌, ◌≤◌, ◌<◌, eqb, List, [], ◌∷◌, length, get_or, take, drop, refl, sym, ap, ◌∙◌, eq-eqb, min, ◌⊎◌, arith, inl, inr, eqb-true}
 use Rattle.std.specs.List.{prefix_len}
 use Rattle.std.specs.Prelude.{map}
 use Rattle.std.proofs.lemmas.Bool.{cases_Bool, cases_lt, ne_eqb}
@@ -28,6 +28,28 @@ pieces_split (b ∷ []) h = elim (cases_Bool (eqb b 10)) [ inl e ↦ rw e refl |
 pieces_split (b ∷ c ∷ bs) h = elim (cases_Bool (eqb b 10)) [
   | inl e ↦ rw e refl
   | inr e ↦ rw e (joined b (c ∷ bs) (prefix_len is_not_lf (c ∷ bs)) (pieces_split (c ∷ bs) (omega arith)))
+]
+
+-- the byte after the first piece is its LF
+piece_ends : (bs : List ℕ) → prefix_len is_not_lf bs < length bs → get_or bs (prefix_len is_not_lf bs) 0 ≡ 10
+piece_ends [] below = absurd (omega arith)
+piece_ends (b ∷ bs) below = elim (cases_Bool (eqb b 10)) [
+  | inl e ↦ rw e (eqb-true b 10 e)
+  | inr e ↦
+      let step : prefix_len is_not_lf (b ∷ bs) ≡ suc (prefix_len is_not_lf bs) = rw e (omega arith) in
+      let rest : prefix_len is_not_lf bs < length bs = omega arith in
+      ap (λ k. get_or (b ∷ bs) k 0) step ∙ piece_ends bs rest
+]
+
+-- a line ends with its LF, or with the text
+pub line_ended : (bytes : List ℕ) (at stop after : ℕ) → at < length bytes → stop ≡ at + prefix_len is_not_lf (drop at bytes) →
+    stop ≤ length bytes → after ≡ min (stop + 1) (length bytes) → (after ≡ length bytes) ⊎ (get_or bytes (after - 1) 0 ≡ 10)
+line_ended bytes at stop after within stop_is most after_is = elim (cases_lt stop (length bytes)) [
+  | inl lt ↦
+      let below : prefix_len is_not_lf (drop at bytes) < length (drop at bytes) = omega (arith, length-drop at bytes) in
+      let place : at + prefix_len is_not_lf (drop at bytes) ≡ after - 1 = omega arith in
+      inr (ap (λ k. get_or bytes k 0) (sym place) ∙ sym (get_or-drop at bytes (prefix_len is_not_lf (drop at bytes)) 0) ∙ piece_ends (drop at bytes) below)
+  | inr ge ↦ inl (omega arith)
 ]
 
 -- a CR at the end goes, and nothing else does

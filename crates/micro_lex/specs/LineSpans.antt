@@ -1,5 +1,5 @@
 -- Where a line lies in its text.
-use Rattle.std.specs.Prelude.{◌≡◌, ℕ, ◌<◌, ◌≤◌, List, ◌∷◌, length, drop, slice_range}
+use Rattle.std.specs.Prelude.{◌≡◌, ℕ, ◌-◌, ◌<◌, ◌≤◌, ◌⊎◌, List, ◌∷◌, length, drop, slice_index, slice_range}
 use Rattle.micro_lex.specs.declared.lines.LineSpan.{LineSpan}
 use Rattle.micro_lex.specs.Lines.{lines}
 
@@ -10,4 +10,6 @@ pub record IsLineAt (bytes : List ℕ) (at : ℕ) (span : LineSpan) : Type 0 whe
   pub within : span.end ≤ length bytes
   pub goes_on : at < span.after
   pub after : span.after ≤ length bytes
+  -- the line ends with its LF, or with the text
+  pub ended : (span.after ≡ length bytes) ⊎ (slice_index bytes (span.after - 1) ≡ 10)
   pub cut : lines (drop at bytes) ≡ slice_range bytes span.start span.end ∷ lines (drop span.after bytes)
