@@ -53,6 +53,7 @@ declared_by earlier = record {
 
 -- ---- what one directive more adds
 
+-- the first that is given stands
 abbrev pub given_or : {X : Type 0} → Option X → X → Option X
 given_or (Some x) y = Some x
 given_or None y = Some y
@@ -77,6 +78,7 @@ declaration_with slices declared = record {
   write = option_and_then (write_place declared.fields) declared.write;
 }
 
+-- the numbers of a declaration are in range and fit together
 abbrev pub FitsTogether : Declaration → Type 0
 FitsTogether d = IsDeclaration d.slices d.kbus d.fields d.prom_words d.prom_bits d.write
 

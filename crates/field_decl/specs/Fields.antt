@@ -33,6 +33,7 @@ can_write name field = bytes_eq name field.name && field.width == 1
 abbrev pub write_place : List Field → List ℕ → Option ℕ
 write_place fields name = position (can_write name) fields
 
+-- there is a field, and it is one bit wide
 abbrev pub is_one_bit : Option Field → Bool
 is_one_bit None = false
 is_one_bit (Some field) = field.width == 1

@@ -14,6 +14,7 @@ use Rattle.field_decl.specs.Judging.{refusal}
 use Rattle.field_decl.specs.Results.{◌>>=◌, unless_refused, in_line}
 use Rattle.field_decl.specs.Words.{words_of}
 
+-- a line with a directive says it
 abbrev pub said : Directive → Result (Option Directive) AsmKind
 said directive = Ok (Some directive)
 
@@ -47,6 +48,7 @@ abbrev pub completed_with : Option ℕ → Declared → Result Declaration AsmKi
 completed_with None declared = Err kinds.Slices
 completed_with (Some slices) declared = Ok (declaration_with slices declared)
 
+-- the declaration that the lines make, or what they lack
 abbrev pub completed : Declared → Result Declaration AsmKind
 completed declared = completed_with declared.slices declared
 

@@ -5,6 +5,7 @@ use Rattle.std.proofs.lemmas.List.{length-take}
 use Rattle.micro_lex.specs.Names.{IsName}
 use Rattle.field_decl.specs.declared.name.Name.TheInside.{Inside}
 
+-- the bytes of a name and zeros up to 32
 abbrev pub padded : List ℕ → List ℕ
 padded text = text ++ replicate (32 - length text) 0
 

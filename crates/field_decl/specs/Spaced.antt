@@ -16,6 +16,7 @@ pub record IsRun (run : Run) : Type 0 where
   pub plain : list_all is_run_byte run.0 ≡ true
   pub reads : run_kind run.0 ≡ Ok run.1
 
+-- each of them is one
 abbrev pub AreRuns : List Run → Type 0
 AreRuns runs = AllByRecursion IsRun runs
 

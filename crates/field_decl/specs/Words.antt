@@ -42,6 +42,7 @@ lexical_fault (lexical.NumberTooWide column) = line_faults.Kind (kinds.NumberToo
 lexical_fault (lexical.NameTooLong column) = line_faults.Kind (kinds.NameTooLong column)
 lexical_fault lexical.OutOfMemory = line_faults.OutOfMemory
 
+-- the words of the tokens that were found
 abbrev pub words_from : List ℕ → Result (List Token) Fault → Result (List Word) AsmKind
 words_from line (Ok found) = Ok (map (word_from line) found)
 words_from line (Err fault) = Err (kind_of fault.cause fault.column)
