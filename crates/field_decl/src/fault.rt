@@ -18,7 +18,7 @@ pub enum AsmKind {
     NumberTooWide(u32),
     /// A name of more than 32 bytes.
     NameTooLong(u32),
-    /// The first word names no directive.
+    /// The first word names no directive; in a layout also a first word with `:` after it.
     UnknownDirective,
     /// The words are not of the directive's form.
     Shape,
