@@ -1,6 +1,6 @@
 //! The values of the user fields of one microword.
 
-ghost use Rattle.std.specs.Prelude.{◌≡◌, ◌<◌, ◌++◌, ◌∷◌, [], length};
+ghost use Rattle.std.specs.Prelude.{◌≡◌, ◌<◌, ◌≤◌, ◌++◌, ◌∷◌, [], length};
 
 use arrayvec::ArrayVec;
 use std::marker::Model;
@@ -39,7 +39,8 @@ impl FieldValues {
 
     /// The numbers in order.
     pub fn as_slice(&self) -> &[u32]
-        ensures { result.now ≡ self.now }
+        ensures values { result.now ≡ self.now }
+        ensures few { length result.now ≤ 80 }
     {
         self.items.as_slice()
     }

@@ -36,7 +36,8 @@ fn word_from(line: &[u8], token: &Token) -> Word
     }
 }
 
-fn words_from(alloc: Global, line: &[u8], tokens: &[Token]) -> Result<Vec<Word>, LineFault>
+/// The words of these tokens of a line. It fails only for want of memory.
+pub fn words_from(alloc: Global, line: &[u8], tokens: &[Token]) -> Result<Vec<Word>, LineFault>
     requires { All (IsTokenOf line.now) tokens.now }
     ensures ok { IfOk result (λ words. words.items ≡ map (word_from line.now) tokens.now) }
     ensures err { IfErr result (λ fault. fault ≡ faults.OutOfMemory) }
