@@ -1,0 +1,4 @@
+pub mod ScriptLaw
+pub mod SettingLists
+pub mod WordLimit
+pub mod TraceDigits

@@ -1,0 +1,8 @@
+pub mod Faults
+pub mod Words
+pub mod Settings
+pub mod SettingSteps
+pub mod Script
+pub mod ScriptView
+pub mod ScriptSteps
+pub mod TraceLine

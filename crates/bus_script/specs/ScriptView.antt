@@ -1,0 +1,6 @@
+-- What a `Script` holds.
+use Rattle.bus_script.specs.declared.script.Script.TheInside.{Inside}
+use Rattle.bus_script.specs.Script.{BusScript}
+
+abbrev pub script_in : Inside → BusScript
+script_in script = record { memory = script.memory.entries; clocks = script.clocks.items }

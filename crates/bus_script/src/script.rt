@@ -1,0 +1,89 @@
+//! A bus script: the memory before the first clock, and the buses of each clock.
+
+ghost use Rattle.std.specs.Prelude.{◌≡◌, ◌<◌, [], is_some, None, OnOk};
+ghost use Rattle.bus_script.specs.Script.{Cell, Clock, script_by, value_at, initial_at, buses_at};
+ghost use Rattle.bus_script.specs.ScriptSteps.{with_line};
+
+use crate::buses::Buses;
+use indexmap::IndexMap;
+use std::alloc::{AllocError, Global};
+use std::marker::Model;
+
+/// What the outside gives to a run: values of the memory, and the buses of each clock.
+#[derive(Drop)]
+pub struct Script {
+    memory: IndexMap<u16, u32>,
+    clocks: Vec<Buses>,
+}
+
+impl Model for Script {
+    ghost use Rattle.bus_script.specs.Script.{BusScript};
+    ghost use Rattle.bus_script.specs.ScriptView.{script_in};
+
+    ghost Value = { BusScript };
+
+    ghost view = { script_in };
+}
+
+impl Script {
+    /// A script that says nothing.
+    pub(crate) fn new(alloc: Global) -> Script
+        ensures { result ≡ script_by [] }
+    {
+        Script {
+            memory: IndexMap::new(alloc),
+            clocks: Vec::new(alloc),
+        }
+    }
+
+    /// Whether an address is named.
+    pub(crate) fn names(&self, address: u16) -> bool
+        ensures { result ≡ is_some (value_at self.now.memory address) }
+    {
+        self.memory.contains_key(&address)
+    }
+
+    /// Names an address, with its value.
+    pub(crate) fn add_cell(&mut self, address: u16, value: u32) -> Result<(), AllocError>
+        requires { value_at self.old.memory address ≡ None }
+        ensures { OnOk result (self.new ≡ with_line self.old (Cell address value)) }
+    {
+        self.memory.insert(address, value)?;
+        Ok(())
+    }
+
+    /// Adds the buses of the next clock.
+    pub(crate) fn add_clock(&mut self, buses: Buses) -> Result<(), AllocError>
+        ensures { OnOk result (self.new ≡ with_line self.old (Clock buses)) }
+    {
+        self.clocks.push(buses)?;
+        Ok(())
+    }
+}
+
+/// The buses of a clock, from 0. After the last clock that the script gives, all buses are 0 and
+/// the memory drives the M bus.
+pub fn at(script: &Script, clock: u32) -> Buses
+    ensures { result ≡ buses_at script.now clock }
+{
+    match script.clocks.get(clock as usize) {
+        Some(buses) => *buses,
+        None => Buses {
+            m: None,
+            i: 0,
+            px: 0,
+            sx: 0,
+        },
+    }
+}
+
+/// The memory's value at an address before the first clock: 0 where the script names none.
+pub fn initial(script: &Script, address: u16) -> u32
+    requires { address < 4096 }
+    ensures { result ≡ initial_at script.now address }
+{
+    match script.memory.get(&address) {
+        Some(value) => *value,
+        None => 0,
+    }
+}
