@@ -2,3 +2,4 @@ pub mod ScriptLaw
 pub mod SettingLists
 pub mod WordLimit
 pub mod TraceDigits
+pub mod ScriptFits

@@ -10,7 +10,7 @@ use Rattle.bus_script.specs.Script.{Said, Nothing, Cell, Clock, BusScript, scrip
 use Rattle.bus_script.specs.ScriptSteps.{with_line, with_said, after_lines}
 
 -- one line more
-script_push : (earlier : List Said) (said : Said) → script_by (earlier ++ said ∷ []) ≡ with_line (script_by earlier) said
+pub script_push : (earlier : List Said) (said : Said) → script_by (earlier ++ said ∷ []) ≡ with_line (script_by earlier) said
 script_push earlier Nothing = simp (filter_map-append, append-nil)
 script_push earlier (Cell address value) = simp (filter_map-append, append-nil)
 script_push earlier (Clock buses) = simp (filter_map-append, append-nil)
@@ -18,6 +18,7 @@ script_push earlier (Clock buses) = simp (filter_map-append, append-nil)
 abbrev all_said : List Said → Result BusScript (ℕ × ScriptKind)
 all_said said = Ok (script_by said)
 
+-- the further lines go on from what a line says, unless it is refused
 goes_on : (slices : ℕ) (earlier : List Said) (rest : List (List ℕ)) (number : ℕ)
     → ((said : Said) → after_lines slices (with_line (script_by earlier) said) (number + 1) rest ≡ (lines_said slices (earlier ++ said ∷ []) rest >>= all_said))
     → (read : Result Said ScriptKind)
@@ -26,6 +27,7 @@ goes_on : (slices : ℕ) (earlier : List Said) (rest : List (List ℕ)) (number 
 goes_on slices earlier rest number more (Ok said) = more said
 goes_on slices earlier rest number more (Err kind) = refl
 
+-- the script after these lines is what they say together
 lines_taken : (slices : ℕ) (earlier : List Said) (rest : List (List ℕ)) → after_lines slices (script_by earlier) (length earlier + 1) rest ≡ (lines_said slices earlier rest >>= all_said)
 unfolding after_lines lines_said
 lines_taken slices earlier [] = refl

@@ -4,5 +4,6 @@ pub mod Settings
 pub mod SettingSteps
 pub mod Script
 pub mod ScriptView
+pub mod ScriptFits
 pub mod ScriptSteps
 pub mod TraceLine

@@ -27,10 +27,12 @@ pub record BusScript : Type 0 where
   pub memory : List (ℕ × ℕ)
   pub clocks : List Buses
 
+-- the address that a line names, with its value
 abbrev pub cell_in : Said → Option (ℕ × ℕ)
 cell_in (Cell address value) = Some (address, value)
 cell_in _ = None
 
+-- the buses that a line gives
 abbrev pub clock_in : Said → Option Buses
 clock_in (Clock buses) = Some buses
 clock_in _ = None
@@ -75,6 +77,7 @@ memory_line slices memory _ = Err kinds.Shape
 abbrev pub clock_line : ℕ → List Word → Result Said ScriptKind
 clock_line slices words = clock_buses slices words >>= λ buses. Ok (Clock buses)
 
+-- a line is of `mem` or of `clk`
 unfoldable pub keyword_line : ℕ → List (ℕ × ℕ) → List ℕ → List Word → Result Said ScriptKind
 keyword_line slices memory keyword words =
     if bytes_eq keyword (codes "mem") then memory_line slices memory words

@@ -20,6 +20,7 @@ hex_digits (suc place) number = hex_digit (number / 2 ^ (4 * place) % 16) ∷ he
 abbrev pub word_text : ℕ → ℕ → List ℕ
 word_text slices word = hex_digits ((slices + 1) / 2) word
 
+-- a flag as a digit
 abbrev pub bit_digit : Bool → ℕ
 bit_digit bit = if bit then 49 else 48
 

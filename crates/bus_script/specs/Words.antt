@@ -27,6 +27,7 @@ lexical_fault (lexical.NumberTooWide column) = line_faults.Kind (kinds.NumberToo
 lexical_fault (lexical.NameTooLong column) = line_faults.Kind (kinds.NameTooLong column)
 lexical_fault lexical.OutOfMemory = line_faults.OutOfMemory
 
+-- the words that the tokens of a line are
 abbrev pub words_with : List ℕ → Result (List Token) Fault → Result (List Word) ScriptKind
 words_with line (Ok found) = Ok (map (word_from line) found)
 words_with line (Err fault) = Err (kind_of fault.cause fault.column)

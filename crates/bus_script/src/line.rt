@@ -65,7 +65,7 @@ fn take_cell(slices: u8, script: &mut Script, address: u128, value: u128) -> Res
     if address > 4095 || value >= word_limit(slices) {
         return Err(LineFault::Kind(ScriptKind::Value));
     }
-    if script.names(address as u16) {
+    if script.value_at(address as u16).is_some() {
         return Err(LineFault::Kind(ScriptKind::Twice));
     }
     script.add_cell(address as u16, value as u32)?;

@@ -1,9 +1,10 @@
 //! A script, read line by line.
 
-ghost use Rattle.std.specs.Prelude.{◌≡◌, ◌<◌, ◌≤◌, ◌^◌, [], length};
+ghost use Rattle.std.specs.Prelude.{◌≡◌, ◌<◌, ◌≤◌, ◌^◌, [], length, IfOk};
 ghost use Rattle.micro_lex.specs.Lines.{lines};
 ghost use Rattle.bus_script.specs.Faults.{GivesText};
 ghost use Rattle.bus_script.specs.Script.{script_by, script_of};
+ghost use Rattle.bus_script.specs.ScriptFits.{IsScriptFor};
 ghost use Rattle.bus_script.specs.ScriptSteps.{after_lines};
 
 use crate::fault::{ScriptFault, fault_at};
@@ -38,12 +39,13 @@ fn take_lines(alloc: Global, bytes: &[u8], slices: u8) -> Result<Script, ScriptF
 ///
 /// Its lines are `mem ADDRESS VALUE`, which names the memory's value before the first clock,
 /// `clk KEY = NUMBER ..`, which gives the buses of the next clock by the keys `m`, `i`, `px` and
-/// `sx`, and empty ones.
+/// `sx`, and empty ones. All values of the script fit the array.
 pub fn read_script(alloc: Global, bytes: &[u8], slices: u8) -> Result<Script, ScriptFault>
     requires small { length bytes.now < 2 ^ 32 }
     requires some { 1 ≤ slices }
     requires most { slices ≤ 16 }
-    ensures { GivesText (λ script. script) result (script_of slices bytes.now) }
+    ensures exact { GivesText (λ script. script) result (script_of slices bytes.now) }
+    ensures fits { IfOk result (IsScriptFor slices) }
 {
     take_lines(alloc, bytes, slices)
 }

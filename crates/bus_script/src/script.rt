@@ -1,7 +1,8 @@
 //! A bus script: the memory before the first clock, and the buses of each clock.
 
-ghost use Rattle.std.specs.Prelude.{◌≡◌, ◌<◌, [], is_some, None, OnOk};
+ghost use Rattle.std.specs.Prelude.{◌≡◌, ℕ, ◌<◌, ◌^◌, [], None, OnOk};
 ghost use Rattle.bus_script.specs.Script.{Cell, Clock, script_by, value_at, initial_at, buses_at};
+ghost use Rattle.bus_script.specs.ScriptFits.{AreBusesFor, IsScriptFor};
 ghost use Rattle.bus_script.specs.ScriptSteps.{with_line};
 
 use crate::buses::Buses;
@@ -36,11 +37,11 @@ impl Script {
         }
     }
 
-    /// Whether an address is named.
-    pub(crate) fn names(&self, address: u16) -> bool
-        ensures { result ≡ is_some (value_at self.now.memory address) }
+    /// The value that is named for an address.
+    pub(crate) fn value_at(&self, address: u16) -> Option<u32>
+        ensures { result ≡ value_at self.now.memory address }
     {
-        self.memory.contains_key(&address)
+        self.memory.get(&address).copied()
     }
 
     /// Names an address, with its value.
@@ -64,7 +65,8 @@ impl Script {
 /// The buses of a clock, from 0. After the last clock that the script gives, all buses are 0 and
 /// the memory drives the M bus.
 pub fn at(script: &Script, clock: u32) -> Buses
-    ensures { result ≡ buses_at script.now clock }
+    ensures exact { result ≡ buses_at script.now clock }
+    ensures fits { (slices : ℕ) → IsScriptFor slices script.now → AreBusesFor slices result }
 {
     match script.clocks.get(clock as usize) {
         Some(buses) => *buses,
@@ -80,10 +82,11 @@ pub fn at(script: &Script, clock: u32) -> Buses
 /// The memory's value at an address before the first clock: 0 where the script names none.
 pub fn initial(script: &Script, address: u16) -> u32
     requires { address < 4096 }
-    ensures { result ≡ initial_at script.now address }
+    ensures exact { result ≡ initial_at script.now address }
+    ensures fits { (slices : ℕ) → IsScriptFor slices script.now → result < 4 ^ slices }
 {
-    match script.memory.get(&address) {
-        Some(value) => *value,
+    match script.value_at(address) {
+        Some(value) => value,
         None => 0,
     }
 }
