@@ -1,0 +1,16 @@
+pub mod UptoLemmas
+pub mod TruthLemmas
+pub mod PlacedLemmas
+pub mod FirstReal
+pub mod CanJump
+pub mod TestLemmas
+pub mod TrapLemmas
+pub mod KindLemmas
+pub mod LengthLemmas
+pub mod JumpLemmas
+pub mod CellLemmas
+pub mod OneTargetLemmas
+pub mod EachTest
+pub mod SoundLemmas
+pub mod DecodeLemmas
+pub mod MeaningLemmas

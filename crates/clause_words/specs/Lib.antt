@@ -1,0 +1,8 @@
+pub mod Upto
+pub mod Truth
+pub mod Number
+pub mod Shape
+pub mod FirstLabel
+pub mod Reaching
+pub mod Clauses
+pub mod Meaning
