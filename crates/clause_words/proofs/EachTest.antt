@@ -143,3 +143,11 @@ single-outcome kind.Goto h = refl
 single-outcome kind.Strobe h = refl
 single-outcome kind.Enable h = refl
 single-outcome _ h = absurd h
+
+-- the clauses of a statement that has more than one target are those of a test
+pub flow-test : (n s : ℕ) (k : Kind) (ts : List (Option ℕ)) → k ≢ kind.Goto → k ≢ kind.Strobe → k ≢ kind.Enable → flow_clauses n s k ts ≡ test_clauses k s ts (first_real ts) (first_label ts)
+unfolding flow_clauses
+flow-test n s kind.Goto ts g t e = absurd (g refl)
+flow-test n s kind.Strobe ts g t e = absurd (t refl)
+flow-test n s kind.Enable ts g t e = absurd (e refl)
+flow-test n s _ ts g t e = refl

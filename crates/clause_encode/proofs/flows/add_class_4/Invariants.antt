@@ -1,0 +1,10 @@
+use Rattle.clause_words.specs.Upto.{upto, at_place}
+use Rattle.clause_words.specs.Clauses.{instr_clauses}
+use Rattle.std.proofs.Common.{length}
+use Rattle.flow_graph.specs.Graph.{graph_of}
+use Rattle.clause_encode.specs.Adds.{Adds}
+use Rattle.clause_encode.proofs.flows.add_class_4.Given as goal
+
+-- the instructions so far
+abbrev pub invariant-loop-s : goal.invariant-loop-s
+invariant-loop-s l = Adds l.initial.list l.list (upto l.s (at_place (graph_of l.program).instrs (instr_clauses (length (graph_of l.program).instrs))))

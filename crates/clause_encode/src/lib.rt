@@ -1,0 +1,18 @@
+//! The placement of a program as clauses, both ways: each legal placement makes every clause true, and
+//! whatever makes every clause true is a legal placement.
+//!
+//! `encode` makes the whole list, `clause_at` one clause of it by its number, and `place_of` reads the
+//! placement off truth values. All are for programs of up to 512 instructions.
+#![tactic(auto)]
+
+mod cells;
+mod encoding;
+mod first_label;
+mod flows;
+mod givens;
+mod numbers;
+mod reaching;
+mod shapes;
+mod traps;
+
+pub use encoding::{encode, var_count};
