@@ -6,6 +6,8 @@
 #![tactic(auto)]
 
 mod cells;
+mod counting;
+mod decoding;
 mod encoding;
 mod first_label;
 mod flows;
@@ -15,4 +17,6 @@ mod reaching;
 mod shapes;
 mod traps;
 
+pub use counting::clause_count;
+pub use decoding::place_of;
 pub use encoding::{encode, var_count};

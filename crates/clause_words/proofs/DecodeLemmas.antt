@@ -17,6 +17,7 @@ use Rattle.flow_graph.specs.declared.pinning.Pin.{Pin}
 use Rattle.flow_graph.specs.Graph.{Graph}
 use Rattle.flow_graph.specs.Valid.{IsInstr}
 use Rattle.place_model.specs.Legal.{IsLegal, HasJump, origin}
+use Rattle.clause_words.specs.PinCells.{HavePinCells}
 use Rattle.clause_words.specs.Upto.{upto, between, each_of}
 use Rattle.clause_words.specs.Truth.{clause_holds, AllHold}
 use Rattle.clause_words.specs.Number.{plus, minus, row_var, col_var, diff_var, pair_var, goto_var}
@@ -34,10 +35,6 @@ use Rattle.clause_words.proofs.UptoLemmas.{upto-All, All-append_left, All-append
 use Rattle.clause_words.proofs.TruthLemmas.{IsHot, hot-is, hot-any}
 use Rattle.clause_words.proofs.PlacedLemmas.{IsPlaced, Differ, class_1-holds, class_2-holds, differ-apart, goto-holds}
 use Rattle.clause_words.proofs.TestLemmas.{each-holds, InRange}
-
--- the cells of the pins are cells of the matrix
-abbrev pub HavePinCells : List Pin → Type 0
-HavePinCells pins = (k : ℕ) (pin : Pin) → slice_get pins k ≡ Some pin → IsCell pin.cell
 
 -- the jump of a statement with one target, by its clauses
 single-holds : (a : ℕ → Bool) (n : ℕ) (place : List Position) (s : ℕ) (from : Position) (ts : List (Option ℕ)) (k : Kind) → IsSingle k → OneTarget a n place s from ts (first_label ts)

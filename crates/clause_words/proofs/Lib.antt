@@ -14,3 +14,5 @@ pub mod EachTest
 pub mod SoundLemmas
 pub mod DecodeLemmas
 pub mod MeaningLemmas
+pub mod PinLemmas
+pub mod CountLemmas

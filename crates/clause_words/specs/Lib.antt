@@ -5,4 +5,5 @@ pub mod Shape
 pub mod FirstLabel
 pub mod Reaching
 pub mod Clauses
+pub mod PinCells
 pub mod Meaning

@@ -1,0 +1,19 @@
+use Rattle.std.proofs.Common.{◌≡◌, ◌≤◌, ◌+◌, ◌*◌, ap, arith, length, None}
+use Rattle.std.proofs.lemmas.Option.{slice_get-get_or}
+use Rattle.clause_words.specs.Upto.{at_place}
+use Rattle.clause_words.specs.Clauses.{target_clauses}
+use Rattle.clause_words.proofs.UptoLemmas.{upto-none}
+use Rattle.clause_words.proofs.CountLemmas.{length-each_more, few-outcomes}
+use Rattle.clause_encode.proofs.counting.targets_count.Goals as goal
+
+pub loop-o-init : goal.loop-o-init
+loop-o-init c = record { count = λ s. ap length (upto-none (at_place c.args.targets.now (target_clauses c.args.kind s c.args.first.outcome c.args.first.label))); few = omega arith }
+
+pub loop-o-preserved : goal.loop-o-preserved
+loop-o-preserved c =
+    let there = slice_get-get_or c.args.targets.now c.loop-o.o None c.loop-o-test.true in
+    record {
+      count = λ s. length-each_more c.args.targets.now (target_clauses c.args.kind s c.args.first.outcome c.args.first.label) c.loop-o.o _ _ _ there
+        (c.target_count-count.ensures.count s) (c.loop-o.invariant.count s);
+      few = omega (arith, c.loop-o.invariant.few, c.target_count-count.ensures.few);
+    }

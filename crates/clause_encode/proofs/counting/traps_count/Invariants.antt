@@ -1,0 +1,11 @@
+use Rattle.std.proofs.Common.{◌≡◌, ◌≤◌, ◌*◌, ℕ, length}
+use Rattle.clause_words.specs.Upto.{upto, at_place}
+use Rattle.clause_words.specs.Clauses.{trap_outcome}
+use Rattle.clause_encode.proofs.counting.traps_count.Given as goal
+
+-- the targets so far
+abbrev pub invariant-loop-target : goal.invariant-loop-target
+invariant-loop-target l = record {
+  count : length (upto l.target-index (at_place l.targets (trap_outcome l.labels l.kind l.first.label l.first.outcome))) ≡ l.count;
+  few : l.count ≤ 1022 * l.target-index;
+}
