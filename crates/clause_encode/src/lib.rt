@@ -1,8 +1,8 @@
 //! The placement of a program as clauses, both ways: each legal placement makes every clause true, and
 //! whatever makes every clause true is a legal placement.
 //!
-//! `encode` makes the whole list, `clause_at` one clause of it by its number, and `place_of` reads the
-//! placement off truth values. All are for programs of up to 512 instructions.
+//! `encode` makes the list of clauses, and `place_of` reads the placement off truth values. Both are for
+//! programs of up to 512 instructions.
 #![tactic(auto)]
 
 mod cells;
@@ -20,3 +20,8 @@ mod traps;
 pub use counting::clause_count;
 pub use decoding::place_of;
 pub use encoding::{encode, var_count};
+
+#[cfg(test)]
+mod program_tables;
+#[cfg(test)]
+mod worked_examples;

@@ -19,6 +19,6 @@ loop-s-preserved c =
     let labels = c.from-labels.ensures ∙ c.len.ensures in
     record {
       count = length-each_more c.args.program.now.instrs (instr_traps n) c.loop-s.s _ _ _ c.instr.ensures
-        (ap (λ m. length (trap_clauses m instr.kind instr.targets)) (sym labels) ∙ c.instr_traps_count-count.ensures.count) c.loop-s.invariant.count;
+          (ap (λ m. length (trap_clauses m instr.kind instr.targets)) (sym labels) ∙ c.instr_traps_count-count.ensures.count) c.loop-s.invariant.count;
       few = omega (arith, c.loop-s.invariant.few, c.instr_traps_count-count.ensures.few);
     }

@@ -30,7 +30,7 @@ returns-in_default c =
     let outcome = c.first_label_of.ensures.outcome ∙ ap first_real targets in
     record {
       count = λ n s. ap length (flow-test n s kind ts c.in_default.not-Goto c.in_default.not-Strobe c.in_default.not-Enable)
-        ∙ length-test kind s ts (first_real ts) (first_label ts) c.targets_count.result
+          ∙ length-test kind s ts (first_real ts) (first_label ts) c.targets_count.result
           (sym (λ i. length (each_of (targets i) (target_clauses kind s (outcome i) (label i)))) ∙ c.targets_count.ensures.count s);
       few = omega (arith, c.targets_count.ensures.few);
     }

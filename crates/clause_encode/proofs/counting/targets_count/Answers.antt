@@ -14,6 +14,6 @@ loop-o-preserved c =
     let there = slice_get-get_or c.args.targets.now c.loop-o.o None c.loop-o-test.true in
     record {
       count = λ s. length-each_more c.args.targets.now (target_clauses c.args.kind s c.args.first.outcome c.args.first.label) c.loop-o.o _ _ _ there
-        (c.target_count-count.ensures.count s) (c.loop-o.invariant.count s);
+          (c.target_count-count.ensures.count s) (c.loop-o.invariant.count s);
       few = omega (arith, c.loop-o.invariant.few, c.target_count-count.ensures.few);
     }

@@ -14,6 +14,6 @@ loop-target-preserved c =
     let there = slice_get-get_or c.args.targets.now c.loop-target.target-index None c.loop-target-test.true in
     record {
       count = length-each_more c.args.targets.now (trap_outcome c.args.labels c.args.kind c.args.first.label c.args.first.outcome) c.loop-target.target-index _ _ _ there
-        (c.trap_outcome_count-count.ensures.count c.loop-target.target-index) c.loop-target.invariant.count;
+          (c.trap_outcome_count-count.ensures.count c.loop-target.target-index) c.loop-target.invariant.count;
       few = omega (arith, c.loop-target.invariant.few, c.trap_outcome_count-count.ensures.few);
     }

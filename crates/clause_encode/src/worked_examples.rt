@@ -1,0 +1,35 @@
+//! Worked examples: the counts and clauses of small programs, from the rules by hand.
+use crate::program_tables::{Line, program};
+use crate::{clause_count, encode, var_count};
+use mcu_jumps::Kind;
+use std::test::Fail;
+
+// A test whose two outcomes are one label: no placement is legal, since that label has two columns.
+const ONE_LABEL_TWICE: [Line; 2] = [
+    ("A", Kind::IfF, &[Some(1), Some(1)]),
+    ("B", Kind::Goto, &[Some(1)]),
+];
+
+#[test]
+fn one_label_for_both_outcomes(rt: HostRuntime) -> Result<(), Fail> {
+    let program = program(rt.alloc(), 32, &[], &ONE_LABEL_TWICE)?;
+    assert_eq!(rt; var_count(&program), 103);
+    assert_eq!(rt; clause_count(&program), 1433);
+    let list = encode(rt.alloc(), &program)?;
+    assert_eq!(rt; list.vars(), 103);
+    assert_eq!(rt; list.len(), 1433);
+    let clauses: [(u32, &[i32]); 4] = [
+        (1286, &[33]),
+        (1319, &[-33, 83]),
+        (1367, &[-33, 84]),
+        (1146, &[-83, -84]),
+    ];
+    for (number, values) in clauses {
+        let lits = list.get(number);
+        assert_eq!(rt; lits.len(), values.len());
+        for (lit, value) in lits.iter().zip(values) {
+            assert_eq!(rt; lit.value(), *value);
+        }
+    }
+    Ok(())
+}
