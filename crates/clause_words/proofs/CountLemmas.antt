@@ -1,6 +1,6 @@
 -- How many clauses there are in the later classes.
-use Rattle.std.proofs.Common.{◌≡◌, ◌≢◌, ℕ, ℤ, zero, suc, ◌+◌, ◌-◌, ◌*◌, ◌<◌, ◌≤◌, ◌⊎◌, inl, inr, Bool, true, false, List, [], ◌∷◌, ◌++◌, length, Option, Some, None, refl, sym, ap, subst, ◌∙◌, arith}
-use Rattle.std.specs.Prelude.{slice_get, ◌==◌, if◌then◌else◌}
+use Rattle.std.proofs.Common.{◌≡◌, ◌≢◌, ℕ, ℤ, zero, suc, ◌+◌, ◌-◌, ◌*◌, ◌<◌, ◌≤◌, inl, inr, Bool, true, false, List, [], ◌∷◌, ◌++◌, length, Option, Some, None, refl, sym, ap, ◌∙◌, arith}
+use Rattle.std.specs.Prelude.{slice_get, if◌then◌else◌}
 use Rattle.std.specs.Option.{option_map_or}
 use Rattle.std.proofs.lemmas.List.{length-append}
 use Rattle.std.proofs.lemmas.Nat.{mul-le}
@@ -9,15 +9,13 @@ use Rattle.std.proofs.lemmas.Option.{slice_get-get_or}
 use Rattle.mcu_jumps.specs.declared.codes.Kind.{Kind}
 use Rattle.mcu_jumps.specs.declared.codes.Kind.TheVariants as kind
 use Rattle.mcu_jumps.specs.Landing.{outcomes_of}
-use Rattle.flow_graph.specs.declared.pinning.Pin.{Pin}
 use Rattle.flow_graph.specs.Graph.{Graph}
-use Rattle.clause_words.specs.Upto.{upto, between, at_place, each_of}
+use Rattle.clause_words.specs.Upto.{upto, at_place, each_of}
 use Rattle.clause_words.specs.Number.{plus, minus, row_var, col_var, goto_var, pair_var, pairs_below}
 use Rattle.clause_words.specs.Shape.{one, same, same_where}
-use Rattle.clause_words.specs.FirstLabel.{first_real, first_label}
 use Rattle.clause_words.specs.Reaching.{col_of, keeps_half}
-use Rattle.clause_words.specs.Clauses.{at_clauses, bound_clauses, pin_clauses, goto_clauses, reach_lit, reach_clauses, col_clause, col_clauses, outcome_clauses, target_clauses, test_clauses, flow_clauses, trap_pair, trap_of, class_1, class_2, class_3, class_4, class_5, clauses_of}
-use Rattle.clause_words.proofs.UptoLemmas.{upto-none, upto-suc, length-upto, length-singles}
+use Rattle.clause_words.specs.Clauses.{at_clauses, bound_clauses, pin_clauses, goto_clauses, reach_lit, reach_clauses, col_clause, col_clauses, outcome_clauses, target_clauses, test_clauses, trap_pair, trap_of, class_1, class_2, class_3, class_4, class_5, clauses_of}
+use Rattle.clause_words.proofs.UptoLemmas.{upto-suc, length-upto, length-singles}
 use Rattle.clause_words.proofs.LengthLemmas.{length-more, length-class_1, length-class_2}
 
 -- the clauses of one element more
@@ -85,7 +83,7 @@ length-cols k s o y = by (keeps_half k)
 pub length-outcome_other : (k : Kind) (s e x o y : ℕ) → o ≢ e → length (outcome_clauses k s e x o y) ≡ 32 + length (col_clauses k s o y)
 length-outcome_other k s e x o y ne =
     ap (λ b. length ((if b then [] else same 32 (row_var x 0) (row_var y 0)) ++ col_clauses k s o y)) (ne_eqb o e ne)
-      ∙ length-append (same 32 (row_var x 0) (row_var y 0)) (col_clauses k s o y) ∙ ap (λ m. m + length (col_clauses k s o y)) (length-same 32 (row_var x 0) (row_var y 0))
+    ∙ length-append (same 32 (row_var x 0) (row_var y 0)) (col_clauses k s o y) ∙ ap (λ m. m + length (col_clauses k s o y)) (length-same 32 (row_var x 0) (row_var y 0))
 
 pub length-test : (k : Kind) (s : ℕ) (ts : List (Option ℕ)) (e x m : ℕ) → length (each_of ts (target_clauses k s e x)) ≡ m → length (test_clauses k s ts e x) ≡ 32 + m
 length-test k s ts e x m h = length-append (reach_clauses k s x) (each_of ts (target_clauses k s e x)) ∙ (λ i. length-reach k s x i + h i)
@@ -114,15 +112,15 @@ length-with_gap w x zero f other gap lt = absurd (omega arith)
 length-with_gap w x (suc m) f other gap lt =
     let whole : length (upto (suc m) f) ≡ length (upto m f) + length (f m) = ap length (upto-suc m f) ∙ length-append (upto m f) (f m) in
     elim (cases_order x m) as (λ _. length (upto (suc m) f) + w ≡ suc m * w) [
-      inl same ↦
-        let before : length (upto m f) ≡ m * w = length-before_gap w x m f other (omega arith) in
-        let last : length (f m) ≡ 0 = ap (λ z. length (f z)) (sym same) ∙ ap length gap in
-        omega arith
-    | inr (inl below) ↦
-        let before : length (upto m f) + w ≡ m * w = length-with_gap w x m f other gap below in
-        let last : length (f m) ≡ w = other m (λ (e : m ≡ x). absurd (omega arith)) in
-        omega arith
-    | inr (inr above) ↦ absurd (omega arith)
+      | inl same ↦
+          let before : length (upto m f) ≡ m * w = length-before_gap w x m f other (omega arith) in
+          let last : length (f m) ≡ 0 = ap (λ z. length (f z)) (sym same) ∙ ap length gap in
+          omega arith
+      | inr (inl below) ↦
+          let before : length (upto m f) + w ≡ m * w = length-with_gap w x m f other gap below in
+          let last : length (f m) ≡ w = other m (λ (e : m ≡ x). absurd (omega arith)) in
+          omega arith
+      | inr (inr above) ↦ absurd (omega arith)
     ]
 
 -- a statement has at most 16 outcomes
@@ -146,9 +144,9 @@ length-free_landing n k x e o w each x_in =
     less : (n l : ℕ) → l + w ≡ n * w → x < n → l ≡ (n - 1) * w
     less zero l h lt = absurd (omega arith)
     less (suc n) l h lt =
-      let one_less : suc n - 1 ≡ n = omega arith in
-      let same : l ≡ n * w = omega arith in
-      same ∙ ap (λ m. m * w) (sym one_less)
+        let one_less : suc n - 1 ≡ n = omega arith in
+        let same : l ≡ n * w = omega arith in
+        same ∙ ap (λ m. m * w) (sym one_less)
 
 -- class 3
 pub length-class_3 : (g : Graph) → length (class_3 g) ≡ 2 * length g.pins + 2 + length g.instrs * (32 - g.rows)

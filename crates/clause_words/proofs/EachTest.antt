@@ -1,11 +1,8 @@
 -- Each kind of test at once.
-use Rattle.std.proofs.Common.{◌≡◌, ◌≢◌, ℕ, ℤ, zero, suc, ◌+◌, ◌-◌, ◌<◌, ◌≤◌, ◌⊎◌, inl, inr, Bool, true, false, ◌||◌, List, [], ◌∷◌, ◌++◌, length, Option, Some, None, refl, sym, ap, subst, ◌∙◌, arith}
+use Rattle.std.proofs.Common.{◌≡◌, ◌≢◌, ℕ, ◌<◌, ◌≤◌, ◌⊎◌, inl, inr, Bool, true, false, List, length, Option, Some, refl, sym, subst, arith}
 use Rattle.std.specs.Prelude.{slice_get, is_some}
 use Rattle.std.specs.List.{list_any}
-use Rattle.std.proofs.lemmas.List.Elements.{All-head, All-tail}
-use Rattle.std.proofs.lemmas.Option.{slice_get_within, same_Some}
-use Rattle.std.proofs.lemmas.List.{length_push}
-use Rattle.std.proofs.lemmas.Bool.{cases_lt}
+use Rattle.std.proofs.lemmas.Option.{slice_get_within}
 use Rattle.mcu_jumps.specs.Position.{Position, IsCell}
 use Rattle.mcu_jumps.specs.JumpWord.{JumpWord}
 use Rattle.mcu_jumps.specs.declared.codes.Kind.{Kind}
@@ -13,30 +10,19 @@ use Rattle.mcu_jumps.specs.declared.codes.Kind.TheVariants as kind
 use Rattle.mcu_jumps.specs.declared.codes.Code.{Code}
 use Rattle.mcu_jumps.specs.declared.codes.Code.TheVariants as code
 use Rattle.mcu_jumps.specs.Landing.{outcomes_of}
-use Rattle.clause_words.specs.Upto.{upto, between, each_of}
-use Rattle.clause_words.specs.Truth.{lit_holds, clause_holds, AllHold}
-use Rattle.clause_words.specs.Number.{plus, minus, row_var, col_var, pair_var}
-use Rattle.clause_words.specs.Shape.{one, any_of}
-use Rattle.place_model.specs.Cells.{IsAt}
+use Rattle.clause_words.specs.Truth.{AllHold}
+use Rattle.clause_words.specs.Number.{pair_var}
 use Rattle.clause_words.proofs.CanJump.{CanJump}
-use Rattle.place_model.specs.Legal.{IsLegal}
 use Rattle.clause_words.specs.Meaning.{row_at, col_at}
 use Rattle.clause_words.specs.Reaching.{keeps_half}
-use Rattle.clause_words.specs.Clauses.{at_clauses, bound_clauses, goto_clauses, test_clauses, flow_clauses, trap_clauses, class_1, class_2, class_3, class_4, class_5, clauses_of, pin_clauses, instr_clauses, instr_traps}
+use Rattle.clause_words.specs.Clauses.{test_clauses, flow_clauses, trap_clauses}
 use Rattle.clause_words.specs.FirstLabel.{first_label, first_real}
-use Rattle.flow_graph.specs.declared.instructions.Instr.{Instr}
-use Rattle.flow_graph.specs.declared.pinning.Pin.{Pin}
-use Rattle.flow_graph.specs.Graph.{Graph}
-use Rattle.flow_graph.specs.Valid.{IsProgram}
-use Rattle.clause_words.proofs.UptoLemmas.{upto-All, All-append_left, All-append_right, slice_get-append_left, slice_get-append_right}
-use Rattle.clause_words.proofs.TruthLemmas.{IsHot, hot-here, hot-is, hot-any, unit-holds, from_minus}
-use Rattle.clause_words.proofs.PlacedLemmas.{IsPlaced, Differ, class_1-holds, class_2-holds, differ-apart, goto-holds}
-use Rattle.clause_words.proofs.TestLemmas.{holds-test, each-holds, row-at, col-at, InRange, test-holds, HasCols, TestFits}
+use Rattle.clause_words.proofs.PlacedLemmas.{IsPlaced, Differ}
+use Rattle.clause_words.proofs.TestLemmas.{holds-test, InRange, test-holds, HasCols, TestFits}
 use Rattle.clause_words.proofs.TrapLemmas.{hold-traps, traps-hold, apart-any, TrapsFree}
 use Rattle.clause_words.proofs.KindLemmas.{IsKindOf, cols_iff, kind_iff, cols_ifc, kind_ifc, cols_ifz, kind_ifz, cols_onpr, kind_onpr, cols_onpx, kind_onpx, cols_onleft, kind_onleft, cols_onright, kind_onright}
 use Rattle.clause_words.proofs.FirstReal.{first-there}
-use Rattle.clause_words.proofs.JumpLemmas.{row-of, col-of, same_cell, cell-at, can-test, test-fits}
-
+use Rattle.clause_words.proofs.JumpLemmas.{can-test, test-fits}
 
 -- a kind of test: its code, its columns, and that its clauses are those of a test
 pub record IsTest (k : Kind) (c : Code) : Type 0 where
@@ -75,45 +61,54 @@ test_onright = record { kind = kind_onright; cols = cols_onright; few = inr refl
 
 -- the jump of a test, by its clauses
 pub test-jump : (a : ℕ → Bool) (n : ℕ) (place : List Position) (s : ℕ) (from : Position) (k : Kind) (c : Code) (ts : List (Option ℕ)) → IsTest k c
-  → IsPlaced a n (row_at place) (col_at place) → length place ≡ n → ((i : ℕ) (p : Position) → slice_get place i ≡ Some p → IsCell p)
-  → ((i j : ℕ) → i < j → j < n → Differ a n (row_at place) (col_at place) i j) → slice_get place s ≡ Some from → s < n
-  → length ts ≡ outcomes_of k → list_any is_some ts ≡ true → InRange ts n
-  → AllHold a (flow_clauses n s k ts) → AllHold a (trap_clauses n k ts) → (j : JumpWord) × CanJump place k ts from j
+    → IsPlaced a n (row_at place) (col_at place) → length place ≡ n → ((i : ℕ) (p : Position) → slice_get place i ≡ Some p → IsCell p)
+    → ((i j : ℕ) → i < j → j < n → Differ a n (row_at place) (col_at place) i j) → slice_get place s ≡ Some from → s < n
+    → length ts ≡ outcomes_of k → list_any is_some ts ≡ true → InRange ts n
+    → AllHold a (flow_clauses n s k ts) → AllHold a (trap_clauses n k ts) → (j : JumpWord) × CanJump place k ts from j
 unfolding InRange
 test-jump a n place s from k c ts is p len cells differ at s_in count some in_range h traps =
     can-test place n k c s ts (first_real ts) (first_label ts) from is.kind len cells at there in_range fits
-      (traps-hold a n (row_at place) (col_at place) k s ts p has s_in x_in (λ x z x_in z_in ne. apart-any a n (row_at place) (col_at place) differ x z x_in z_in ne) (fits.cols (first_real ts) (first_label ts) there) traps)
+    (traps-hold a n (row_at place) (col_at place) k s ts p has s_in x_in (λ x z x_in z_in ne. apart-any a n (row_at place) (col_at place) differ x z x_in z_in ne) (fits.cols (first_real ts) (first_label ts) there) traps)
   where
     there : slice_get ts (first_real ts) ≡ Some (Some (first_label ts))
     there = first-there ts some
+
     x_in : first_label ts < n
     x_in = in_range (first_real ts) (first_label ts) there
+
     has : HasCols k (length ts)
     has = subst (HasCols k) (sym count) is.cols
+
     here : AllHold a (test_clauses k s ts (first_real ts) (first_label ts))
     here = subst (AllHold a) (is.clauses n s ts) h
+
     fits : TestFits k (row_at place) (col_at place) s ts (first_label ts)
     fits = test-holds a n (row_at place) (col_at place) k s ts (first_real ts) (first_label ts) p has s_in in_range there here
 
 -- the clauses of a test, by its jump
 pub test-sound : (a : ℕ → Bool) (n : ℕ) (place : List Position) (s : ℕ) (from : Position) (k : Kind) (c : Code) (ts : List (Option ℕ)) (j : JumpWord) → IsTest k c
-  → IsPlaced a n (row_at place) (col_at place) → length place ≡ n → ((i : ℕ) (p : Position) → slice_get place i ≡ Some p → IsCell p)
-  → ((x z : ℕ) → x < n → z < n → x ≢ z → a (pair_var n x z) ≡ false → row_at place x ≡ row_at place z) → slice_get place s ≡ Some from → s < n
-  → length ts ≡ outcomes_of k → list_any is_some ts ≡ true → InRange ts n
-  → CanJump place k ts from j → AllHold a (flow_clauses n s k ts) × AllHold a (trap_clauses n k ts)
+    → IsPlaced a n (row_at place) (col_at place) → length place ≡ n → ((i : ℕ) (p : Position) → slice_get place i ≡ Some p → IsCell p)
+    → ((x z : ℕ) → x < n → z < n → x ≢ z → a (pair_var n x z) ≡ false → row_at place x ≡ row_at place z) → slice_get place s ≡ Some from → s < n
+    → length ts ≡ outcomes_of k → list_any is_some ts ≡ true → InRange ts n
+    → CanJump place k ts from j → AllHold a (flow_clauses n s k ts) × AllHold a (trap_clauses n k ts)
 unfolding InRange
-test-sound a n place s from k c ts j is p len cells same_rows at s_in count some in_range can =
-    ( subst (AllHold a) (sym (is.clauses n s ts)) (holds-test a n (row_at place) (col_at place) k s ts (first_real ts) (first_label ts) p has s_in in_range x_in fits.0)
-    , hold-traps a n (row_at place) (col_at place) k s ts p has s_in x_in (slice_get_within ts (first_real ts) (Some (first_label ts)) there) few same_rows (fits.0.cols (first_real ts) (first_label ts) there) fits.1 )
+test-sound a n place s from k c ts j is p len cells same_rows at s_in count some in_range can = (
+  subst (AllHold a) (sym (is.clauses n s ts)) (holds-test a n (row_at place) (col_at place) k s ts (first_real ts) (first_label ts) p has s_in in_range x_in fits.0),
+  hold-traps a n (row_at place) (col_at place) k s ts p has s_in x_in (slice_get_within ts (first_real ts) (Some (first_label ts)) there) few same_rows (fits.0.cols (first_real ts) (first_label ts) there) fits.1,
+)
   where
     there : slice_get ts (first_real ts) ≡ Some (Some (first_label ts))
     there = first-there ts some
+
     x_in : first_label ts < n
     x_in = in_range (first_real ts) (first_label ts) there
+
     has : HasCols k (length ts)
     has = subst (HasCols k) (sym count) is.cols
+
     few : (length ts ≤ 6) ⊎ (keeps_half k ≡ false)
     few = subst (λ m. (m ≤ 6) ⊎ (keeps_half k ≡ false)) (sym count) is.few
+
     fits : TestFits k (row_at place) (col_at place) s ts (first_label ts) × TrapsFree k n (row_at place) (col_at place) s ts (first_label ts)
     fits = test-fits place n k c s ts (first_real ts) (first_label ts) from j is.kind len cells at there can
 

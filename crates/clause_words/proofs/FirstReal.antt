@@ -10,7 +10,6 @@ first-there [] h = cc
 first-there (Some y ∷ ts) h = refl
 first-there (None ∷ ts) h = let e : first_real ts + 1 ≡ suc (first_real ts) = omega arith in ap (slice_get (None ∷ ts)) e ∙ first-there ts h
 
-
 -- an outcome with a label, before which there are only traps, is the first one
 pub first-is : (ts : List (Option ℕ)) (i y : ℕ) → ((k : ℕ) → k < i → slice_get ts k ≡ Some None) → slice_get ts i ≡ Some (Some y) → (first_real ts ≡ i) × (first_label ts ≡ y)
 first-is [] i y h e = cc

@@ -1,6 +1,6 @@
 -- A statement with one target has a jump exactly where the target stands as its clauses say.
-use Rattle.std.proofs.Common.{◌≡◌, ℕ, suc, ◌+◌, ◌*◌, ◌/◌, ◌%◌, ◌<◌, ◌⊎◌, inl, inr, Bool, true, List, [], ◌∷◌, ◌++◌, length, ℤ, Option, Some, refl, sym, ap, subst, ◌∙◌, arith}
-use Rattle.std.specs.Prelude.{slice_get, is_some, ◌==◌}
+use Rattle.std.proofs.Common.{◌≡◌, ℕ, ◌+◌, ◌*◌, ◌/◌, ◌%◌, ◌<◌, ◌⊎◌, inl, inr, Bool, true, List, ◌++◌, length, ℤ, Option, Some, refl, sym, ap, subst, ◌∙◌, arith}
+use Rattle.std.specs.Prelude.{slice_get, is_some}
 use Rattle.std.specs.List.{list_any}
 use Rattle.std.proofs.lemmas.List.Elements.{All-nil, All-append}
 use Rattle.std.proofs.lemmas.Option.{slice_get_within, same_Some}
@@ -15,14 +15,14 @@ use Rattle.mcu_jumps.specs.NextAddress.{row_after, col_after, lands}
 use Rattle.mcu_jumps.specs.Landing.{Admits, AdmitsGoto}
 use Rattle.place_model.specs.Cells.{IsAt}
 use Rattle.clause_words.specs.Truth.{clause_holds, AllHold}
-use Rattle.clause_words.specs.Number.{row_var, col_var}
+use Rattle.clause_words.specs.Number.{col_var}
 use Rattle.clause_words.specs.Shape.{same}
 use Rattle.clause_words.specs.FirstLabel.{first_real, first_label}
 use Rattle.clause_words.specs.Reaching.{reaches}
 use Rattle.clause_words.specs.Clauses.{reach_clauses, trap_outcome, trap_clauses}
 use Rattle.clause_words.specs.Meaning.{row_at, col_at}
 use Rattle.clause_words.proofs.UptoLemmas.{All-append_left, All-append_right}
-use Rattle.clause_words.proofs.TruthLemmas.{IsHot, hot-here, hot-is, same-holds, holds-same}
+use Rattle.clause_words.proofs.TruthLemmas.{hot-here, hot-is, same-holds, holds-same}
 use Rattle.clause_words.proofs.PlacedLemmas.{IsPlaced, GotoFits}
 use Rattle.clause_words.proofs.FirstReal.{first-there}
 use Rattle.clause_words.proofs.CanJump.{CanJump}
@@ -59,17 +59,17 @@ pub holds-no_traps : (a : ℕ → Bool) (n : ℕ) (k : Kind) (ts : List (Option 
 unfolding trap_clauses
 holds-no_traps a n k ts m alone =
     holds-each a ts (trap_outcome n k (first_label ts) (first_real ts)) (λ o t e.
-      subst (λ (t : Option ℕ). AllHold a (trap_outcome n k (first_label ts) (first_real ts) o t)) (sym (alone o t e)) (All-nil (λ c. clause_holds a c ≡ true)))
+    subst (λ (t : Option ℕ). AllHold a (trap_outcome n k (first_label ts) (first_real ts) o t)) (sym (alone o t e)) (All-nil (λ c. clause_holds a c ≡ true)))
 
 -- a jump that lands on the target
 one-jump : (a : ℕ → Bool) (n : ℕ) (place : List Position) (s : ℕ) (from : Position) (ts : List (Option ℕ)) (m : ℕ) (k : Kind) (j : JumpWord) → OneTarget a n place s from ts m → IsJump j → Admits k j
-  → row_at place m ≡ row_after j.code from.row j.operand → ((o : ℕ) → col_at place m ≡ col_after j.code from.col j.operand o) → (j : JumpWord) × CanJump place k ts from j
+    → row_at place m ≡ row_after j.code from.row j.operand → ((o : ℕ) → col_at place m ≡ col_after j.code from.col j.operand o) → (j : JumpWord) × CanJump place k ts from j
 one-jump a n place s from ts m k j w jump admitted row col = (j, record { jump = jump; admitted = admitted; landings = land })
   where
     land : (o : ℕ) (t : Option ℕ) → slice_get ts o ≡ Some t → IsAt place t (lands from j o)
     land o t there =
-      let p = cell-at place n m w.count w.target in
-      subst (λ (t : Option ℕ). IsAt place t (lands from j o)) (sym (w.alone o t there))
+        let p = cell-at place n m w.count w.target in
+        subst (λ (t : Option ℕ). IsAt place t (lands from j o)) (sym (w.alone o t there))
         (p.1 ∙ ap Some (same_cell p.0 (lands from j o) (sym (row-of place m p.0 p.1) ∙ row) (sym (col-of place m p.0 p.1) ∙ col o)))
 
 -- the row and the column of the target, by a jump
@@ -108,9 +108,10 @@ can-strobe a n place s from ts m w row col =
 
 -- and the other way round
 pub strobe-fits : (place : List Position) (from : Position) (ts : List (Option ℕ)) (m : ℕ) (j : JumpWord) → slice_get ts 0 ≡ Some (Some m) → CanJump place kind.Strobe ts from j → (row_at place m ≡ 0) × (col_at place m ≡ 15)
-strobe-fits place from ts m j first can =
-    ( lands-row place from ts m kind.Strobe j first can ∙ ap (λ c. row_after c from.row j.operand) can.admitted.0
-    , lands-col place from ts m kind.Strobe j first can ∙ ap (λ c. col_after c from.col j.operand 0) can.admitted.0 ∙ can.admitted.1 )
+strobe-fits place from ts m j first can = (
+  lands-row place from ts m kind.Strobe j first can ∙ ap (λ c. row_after c from.row j.operand) can.admitted.0,
+  lands-col place from ts m kind.Strobe j first can ∙ ap (λ c. col_after c from.col j.operand 0) can.admitted.0 ∙ can.admitted.1,
+)
 
 -- where the target of `enable` stands
 pub record EnableFits (place : List Position) (s m : ℕ) : Type 0 where
@@ -123,7 +124,7 @@ can-enable a n place s from ts m w fits =
     let group : row_at place m / 8 ≡ row_at place s / 8 = eqb-true (row_at place m / 8) (row_at place s / 8) fits.reach in
     let from_row : row_at place s ≡ from.row = row-of place s from w.at in
     one-jump a n place s from ts m kind.Enable (record { code = code.Jce; operand = row_at place m % 8 }) w (omega arith) refl
-      (in_group (row_at place m) (row_at place s) from.row group from_row) (λ o. sym fits.cols ∙ col-of place s from w.at)
+    (in_group (row_at place m) (row_at place s) from.row group from_row) (λ o. sym fits.cols ∙ col-of place s from w.at)
   where
     in_group : (q r f : ℕ) → q / 8 ≡ r / 8 → r ≡ f → q ≡ 8 * (f / 8) + q % 8
     in_group q r f group same = let g : q / 8 ≡ f / 8 = group ∙ ap (λ v. v / 8) same in omega arith
@@ -158,6 +159,6 @@ enable-holds a n place s m p s_in m_in h =
 pub holds-enable : (a : ℕ → Bool) (n : ℕ) (place : List Position) (s m : ℕ) → IsPlaced a n (row_at place) (col_at place) → s < n → m < n → EnableFits place s m → AllHold a (same 16 (col_var s 0) (col_var m 0) ++ reach_clauses kind.Enable s m)
 holds-enable a n place s m p s_in m_in fits =
     All-append (λ c. clause_holds a c ≡ true) (same 16 (col_var s 0) (col_var m 0)) (reach_clauses kind.Enable s m)
-      (holds-same a 16 (col_var s 0) (col_var m 0) (p.cols s s_in).above (λ c lt here.
-        hot-here a 16 (col_var m 0) (col_at place m) c (p.cols m m_in) (sym fits.cols ∙ hot-is a 16 (col_var s 0) (col_at place s) c (p.cols s s_in) lt here)))
-      (holds-reach a kind.Enable s m (row_at place s) (row_at place m) (p.rows s s_in) (p.rows m m_in) fits.reach)
+    (holds-same a 16 (col_var s 0) (col_var m 0) (p.cols s s_in).above (λ c lt here.
+    hot-here a 16 (col_var m 0) (col_at place m) c (p.cols m m_in) (sym fits.cols ∙ hot-is a 16 (col_var s 0) (col_at place s) c (p.cols s s_in) lt here)))
+    (holds-reach a kind.Enable s m (row_at place s) (row_at place m) (p.rows s s_in) (p.rows m m_in) fits.reach)

@@ -1,18 +1,14 @@
 -- What the clauses say of rows and columns. The row of label i is rho i, its column gam i.
-use Rattle.std.proofs.Common.{◌≡◌, ◌≢◌, ℕ, ℤ, zero, suc, ◌+◌, ◌-◌, ◌*◌, ◌/◌, ◌%◌, ◌<◌, ◌≤◌, ◌⊎◌, inl, inr, Bool, true, false, not, ◌||◌, ◌&&◌, cond, List, [], ◌∷◌, ◌++◌, length, refl, sym, ap, subst, ◌∙◌, arith}
-use Rattle.std.specs.Prelude.{◌==◌, if◌then◌else◌, nat_lt}
-use Rattle.std.specs.List.{All, list_any}
-use Rattle.std.proofs.lemmas.List.Elements.{All-nil, All-cons, All-head, All-tail, All-append}
-use Rattle.std.proofs.lemmas.Bool.{cases_Bool, cases_lt, cases_eq, cases_order, eqb-true, eqb-false, eq-eqb, ne_eqb, and_parts, and_from, ltb-true, lt-ltb}
-use Rattle.mcu_jumps.specs.declared.codes.Kind.{Kind}
-use Rattle.clause_words.specs.Upto.{upto, between}
+use Rattle.std.proofs.Common.{◌≡◌, ◌≢◌, ℕ, ℤ, ◌+◌, ◌<◌, ◌⊎◌, inl, inr, Bool, true, false, ◌&&◌, List, [], ◌∷◌, ◌++◌, refl, sym, ap, ◌∙◌, arith}
+use Rattle.std.specs.Prelude.{◌==◌, nat_lt}
+use Rattle.std.proofs.lemmas.List.Elements.{All-append}
+use Rattle.std.proofs.lemmas.Bool.{cases_Bool, cases_lt, eqb-true, eq-eqb, and_parts, and_from, ltb-true, lt-ltb}
 use Rattle.clause_words.specs.Truth.{lit_holds, clause_holds, AllHold}
 use Rattle.clause_words.specs.Number.{plus, minus, row_var, col_var, diff_var, goto_var}
-use Rattle.clause_words.specs.Shape.{one, plus_at, any_of, no_two, same, same_where, apart_unless}
-use Rattle.clause_words.specs.Clauses.{cell_clauses, apart_clauses, class_1, class_2, apart_from_earlier, goto_clauses, at_clauses, bound_clauses, reach_clauses}
-use Rattle.clause_words.specs.Reaching.{reaches}
-use Rattle.clause_words.proofs.UptoLemmas.{All-upto, upto-All, any-upto, upto-any, All-append_left, All-append_right}
-use Rattle.clause_words.proofs.TruthLemmas.{IsHot, hot-here, hot-is, hot-from, hot-any, hot-no_two, apart-holds, holds-apart, same_where-holds, holds-same_where, same-holds, holds-same, unit-holds, holds-unit, two-hold, hold-two, three-hold, hold-three, minus-holds, minus-false, minus-true, from_minus, from_not, to_minus, one-holds, holds-one, one_of}
+use Rattle.clause_words.specs.Shape.{one, any_of, no_two, same_where, apart_unless}
+use Rattle.clause_words.specs.Clauses.{cell_clauses, apart_clauses, class_1, class_2, apart_from_earlier, goto_clauses}
+use Rattle.clause_words.proofs.UptoLemmas.{All-upto, upto-All, All-append_left, All-append_right}
+use Rattle.clause_words.proofs.TruthLemmas.{IsHot, hot-here, hot-is, hot-from, hot-any, hot-no_two, apart-holds, holds-apart, same_where-holds, holds-same_where, two-hold, hold-two, three-hold, hold-three, minus-false, from_minus, from_not, to_minus}
 
 -- each label has one row and one column
 pub record IsPlaced (a : ℕ → Bool) (n : ℕ) (rho gam : ℕ → ℕ) : Type 0 where
@@ -27,9 +23,10 @@ cell-holds a i h =
     let rows : List (List ℤ) = one (any_of 32 (row_var i 0)) in
     let cols : List (List ℤ) = one (any_of 16 (col_var i 0)) in
     let front : AllHold a ((rows ++ cols) ++ no_two 32 (row_var i 0)) = All-append_left P ((rows ++ cols) ++ no_two 32 (row_var i 0)) (no_two 16 (col_var i 0)) h in
-    let both : AllHold a (rows ++ cols) = All-append_left P (rows ++ cols) (no_two 32 (row_var i 0)) front in
-    ( hot-from a 32 (row_var i 0) (omega arith) (All-append_left P rows cols both) (All-append_right P (rows ++ cols) (no_two 32 (row_var i 0)) front)
-    , hot-from a 16 (col_var i 0) (omega arith) (All-append_right P rows cols both) (All-append_right P ((rows ++ cols) ++ no_two 32 (row_var i 0)) (no_two 16 (col_var i 0)) h) )
+    let both : AllHold a (rows ++ cols) = All-append_left P (rows ++ cols) (no_two 32 (row_var i 0)) front in (
+      hot-from a 32 (row_var i 0) (omega arith) (All-append_left P rows cols both) (All-append_right P (rows ++ cols) (no_two 32 (row_var i 0)) front),
+      hot-from a 16 (col_var i 0) (omega arith) (All-append_right P rows cols both) (All-append_right P ((rows ++ cols) ++ no_two 32 (row_var i 0)) (no_two 16 (col_var i 0)) h),
+    )
 
 pub holds-cell : (a : ℕ → Bool) (i r c : ℕ) → IsHot a 32 (row_var i 0) r → IsHot a 16 (col_var i 0) c → AllHold a (cell_clauses i)
 unfolding cell_clauses
@@ -38,8 +35,8 @@ holds-cell a i r c h k =
     let rows : List (List ℤ) = one (any_of 32 (row_var i 0)) in
     let cols : List (List ℤ) = one (any_of 16 (col_var i 0)) in
     All-append P (rows ++ cols ++ no_two 32 (row_var i 0)) (no_two 16 (col_var i 0))
-      (All-append P (rows ++ cols) (no_two 32 (row_var i 0)) (All-append P rows cols (hot-any a 32 (row_var i 0) r h) (hot-any a 16 (col_var i 0) c k)) (hot-no_two a 32 (row_var i 0) r h))
-      (hot-no_two a 16 (col_var i 0) c k)
+    (All-append P (rows ++ cols) (no_two 32 (row_var i 0)) (All-append P rows cols (hot-any a 32 (row_var i 0) r h) (hot-any a 16 (col_var i 0) c k)) (hot-no_two a 32 (row_var i 0) r h))
+    (hot-no_two a 16 (col_var i 0) c k)
 
 pub class_1-holds : (a : ℕ → Bool) (n : ℕ) → AllHold a (class_1 n) → (i : ℕ) → i < n → ((r : ℕ) × IsHot a 32 (row_var i 0) r) × ((c : ℕ) × IsHot a 16 (col_var i 0) c)
 class_1-holds a n h i lt = cell-holds a i (upto-All (λ c. clause_holds a c ≡ true) n cell_clauses h i lt)
@@ -49,26 +46,27 @@ holds-class_1 a n rho gam h = All-upto (λ c. clause_holds a c ≡ true) n cell_
 
 -- class 2
 pub apart-differ : (a : ℕ → Bool) (n j i ri ci rj cj : ℕ) → IsHot a 32 (row_var i 0) ri → IsHot a 16 (col_var i 0) ci → IsHot a 32 (row_var j 0) rj → IsHot a 16 (col_var j 0) cj
-  → AllHold a (apart_clauses n j i) → (a (diff_var n i j) ≡ true → ri ≢ rj) × (a (diff_var n i j) ≡ false → ci ≢ cj)
+    → AllHold a (apart_clauses n j i) → (a (diff_var n i j) ≡ true → ri ≢ rj) × (a (diff_var n i j) ≡ false → ci ≢ cj)
 unfolding apart_clauses
 apart-differ a n j i ri ci rj cj hri hci hrj hcj h =
     let P : List ℤ → Type 0 = λ c. clause_holds a c ≡ true in
     let d = diff_var n i j in
     let rows : AllHold a (apart_unless (minus d) 32 (row_var i 0) (row_var j 0)) = All-append_left P (apart_unless (minus d) 32 (row_var i 0) (row_var j 0)) (apart_unless (plus d) 16 (col_var i 0) (col_var j 0)) h in
-    let cols : AllHold a (apart_unless (plus d) 16 (col_var i 0) (col_var j 0)) = All-append_right P (apart_unless (minus d) 32 (row_var i 0) (row_var j 0)) (apart_unless (plus d) 16 (col_var i 0) (col_var j 0)) h in
-    ( (λ (t : a d ≡ true) (e : ri ≡ rj). apart-holds a (minus d) 32 (row_var i 0) (row_var j 0) hri.above hrj.above rows (minus-false a d (omega arith) t) ri hri.within (hot-here a 32 (row_var i 0) ri ri hri refl) (hot-here a 32 (row_var j 0) rj ri hrj (sym e)))
-    , (λ (f : a d ≡ false) (e : ci ≡ cj). apart-holds a (plus d) 16 (col_var i 0) (col_var j 0) hci.above hcj.above cols f ci hci.within (hot-here a 16 (col_var i 0) ci ci hci refl) (hot-here a 16 (col_var j 0) cj ci hcj (sym e))) )
+    let cols : AllHold a (apart_unless (plus d) 16 (col_var i 0) (col_var j 0)) = All-append_right P (apart_unless (minus d) 32 (row_var i 0) (row_var j 0)) (apart_unless (plus d) 16 (col_var i 0) (col_var j 0)) h in (
+      (λ (t : a d ≡ true) (e : ri ≡ rj). apart-holds a (minus d) 32 (row_var i 0) (row_var j 0) hri.above hrj.above rows (minus-false a d (omega arith) t) ri hri.within (hot-here a 32 (row_var i 0) ri ri hri refl) (hot-here a 32 (row_var j 0) rj ri hrj (sym e))),
+      (λ (f : a d ≡ false) (e : ci ≡ cj). apart-holds a (plus d) 16 (col_var i 0) (col_var j 0) hci.above hcj.above cols f ci hci.within (hot-here a 16 (col_var i 0) ci ci hci refl) (hot-here a 16 (col_var j 0) cj ci hcj (sym e))),
+    )
 
 pub holds-apart_clauses : (a : ℕ → Bool) (n j i ri ci rj cj : ℕ) → IsHot a 32 (row_var i 0) ri → IsHot a 16 (col_var i 0) ci → IsHot a 32 (row_var j 0) rj → IsHot a 16 (col_var j 0) cj
-  → (a (diff_var n i j) ≡ true → ri ≢ rj) → (a (diff_var n i j) ≡ false → ci ≢ cj) → AllHold a (apart_clauses n j i)
+    → (a (diff_var n i j) ≡ true → ri ≢ rj) → (a (diff_var n i j) ≡ false → ci ≢ cj) → AllHold a (apart_clauses n j i)
 unfolding apart_clauses
 holds-apart_clauses a n j i ri ci rj cj hri hci hrj hcj rows cols =
     let d = diff_var n i j in
     All-append (λ c. clause_holds a c ≡ true) (apart_unless (minus d) 32 (row_var i 0) (row_var j 0)) (apart_unless (plus d) 16 (col_var i 0) (col_var j 0))
-      (holds-apart a (minus d) 32 (row_var i 0) (row_var j 0) hri.above hrj.above (λ (e : lit_holds a (minus d) ≡ false) (k : ℕ) (lt : k < 32) f g.
-        rows (from_not a d (omega arith) e) (hot-is a 32 (row_var i 0) ri k hri lt f ∙ sym (hot-is a 32 (row_var j 0) rj k hrj lt g))))
-      (holds-apart a (plus d) 16 (col_var i 0) (col_var j 0) hci.above hcj.above (λ (e : lit_holds a (plus d) ≡ false) (k : ℕ) (lt : k < 16) f g.
-        cols e (hot-is a 16 (col_var i 0) ci k hci lt f ∙ sym (hot-is a 16 (col_var j 0) cj k hcj lt g))))
+    (holds-apart a (minus d) 32 (row_var i 0) (row_var j 0) hri.above hrj.above (λ (e : lit_holds a (minus d) ≡ false) (k : ℕ) (lt : k < 32) f g.
+    rows (from_not a d (omega arith) e) (hot-is a 32 (row_var i 0) ri k hri lt f ∙ sym (hot-is a 32 (row_var j 0) rj k hrj lt g))))
+    (holds-apart a (plus d) 16 (col_var i 0) (col_var j 0) hci.above hcj.above (λ (e : lit_holds a (plus d) ≡ false) (k : ℕ) (lt : k < 16) f g.
+    cols e (hot-is a 16 (col_var i 0) ci k hci lt f ∙ sym (hot-is a 16 (col_var j 0) cj k hcj lt g))))
 
 -- what D says of two labels
 pub record Differ (a : ℕ → Bool) (n : ℕ) (rho gam : ℕ → ℕ) (i j : ℕ) : Type 0 where
@@ -85,9 +83,9 @@ class_2-holds a n rho gam p h i j lt below =
 pub holds-class_2 : (a : ℕ → Bool) (n : ℕ) (rho gam : ℕ → ℕ) → IsPlaced a n rho gam → ((i j : ℕ) → i < j → j < n → Differ a n rho gam i j) → AllHold a (class_2 n)
 holds-class_2 a n rho gam p h =
     All-upto (λ c. clause_holds a c ≡ true) n (apart_from_earlier n) (λ j below. All-upto (λ c. clause_holds a c ≡ true) j (apart_clauses n j) (λ i lt.
-      let within : i < n = omega arith in
-      let d = h i j lt below in
-      holds-apart_clauses a n j i (rho i) (gam i) (rho j) (gam j) (p.rows i within) (p.cols i within) (p.rows j below) (p.cols j below) d.rows d.cols))
+    let within : i < n = omega arith in
+    let d = h i j lt below in
+    holds-apart_clauses a n j i (rho i) (gam i) (rho j) (gam j) (p.rows i within) (p.cols i within) (p.rows j below) (p.cols j below) d.rows d.cols))
 
 pub differ-apart : (a : ℕ → Bool) (n : ℕ) (rho gam : ℕ → ℕ) (i j : ℕ) → Differ a n rho gam i j → rho i ≡ rho j → gam i ≡ gam j → ⊥
 differ-apart a n rho gam i j d e f = elim (cases_Bool (a (diff_var n i j))) as (λ _. ⊥) [ inl t ↦ d.rows t e | inr t ↦ d.cols t f ]
@@ -103,7 +101,7 @@ col-at : (m c : ℕ) → col_var m 0 + c ≡ col_var m c
 col-at m c = omega arith
 
 pub goto-holds : (a : ℕ → Bool) (n : ℕ) (rho gam : ℕ → ℕ) (s m : ℕ) → IsHot a 32 (row_var s 0) (rho s) → IsHot a 16 (col_var s 0) (gam s) → IsHot a 32 (row_var m 0) (rho m) → IsHot a 16 (col_var m 0) (gam m)
-  → AllHold a (goto_clauses n s m) → GotoFits rho gam s m
+    → AllHold a (goto_clauses n s m) → GotoFits rho gam s m
 unfolding GotoFits
 goto-holds a n rho gam s m hrs hcs hrm hcm h =
     let P : List ℤ → Type 0 = λ c. clause_holds a c ≡ true in
@@ -124,18 +122,18 @@ goto-holds a n rho gam s m hrs hcs hrm hcm h =
     let is_low : AllHold a low = All-append_right P (some ++ cols ++ zero_row) low h4 in
     let is_rows : AllHold a rows = All-append_right P (some ++ cols ++ zero_row ++ low) rows h in
     elim (cases_Bool (a g0)) as (λ _. (gam s ≡ gam m) ⊎ (((rho m ≡ 0) × (gam m < 15)) ⊎ (rho s ≡ rho m))) [
-      inl t ↦ inl (sym (hot-is a 16 (col_var m 0) (gam m) (gam s) hcm hcs.within (same_where-holds a g0 16 (col_var s 0) (col_var m 0) (omega arith) hcs.above is_cols t (gam s) hcs.within (hot-here a 16 (col_var s 0) (gam s) (gam s) hcs refl))))
-    | inr f ↦ elim (cases_Bool (a g1)) as (λ _. (gam s ≡ gam m) ⊎ (((rho m ≡ 0) × (gam m < 15)) ⊎ (rho s ≡ rho m))) [
-        inl t ↦
-          let at_row : a (row_var m 0) ≡ true = two-hold a (minus g1) (plus (row_var m 0)) is_zero (minus-false a g1 (omega arith) t) in
-          let at_zero : row_var m 0 + 0 ≡ row_var m 0 = omega arith in
-          let is0 : rho m ≡ 0 = hot-is a 32 (row_var m 0) (rho m) 0 hrm (omega arith) (ap a at_zero ∙ at_row) in
-          let not15 : gam m ≡ 15 → ⊥ = λ (e : gam m ≡ 15). from_minus a (col_var m 15) (omega arith) (two-hold a (minus g1) (minus (col_var m 15)) is_low (minus-false a g1 (omega arith) t)) (ap a (sym (col-at m 15)) ∙ hot-here a 16 (col_var m 0) (gam m) 15 hcm e) in
-          let in16 : gam m < 16 = hcm.within in
-          inr (inl (is0, below15 (gam m) in16 not15))
-      | inr f1 ↦
-          let t : a g2 ≡ true = three-hold a (plus g0) (plus g1) (plus g2) is_some f f1 in
-          inr (inr (sym (hot-is a 32 (row_var m 0) (rho m) (rho s) hrm hrs.within (same_where-holds a g2 32 (row_var s 0) (row_var m 0) (omega arith) hrs.above is_rows t (rho s) hrs.within (hot-here a 32 (row_var s 0) (rho s) (rho s) hrs refl)))))
+      | inl t ↦ inl (sym (hot-is a 16 (col_var m 0) (gam m) (gam s) hcm hcs.within (same_where-holds a g0 16 (col_var s 0) (col_var m 0) (omega arith) hcs.above is_cols t (gam s) hcs.within (hot-here a 16 (col_var s 0) (gam s) (gam s) hcs refl))))
+      | inr f ↦ elim (cases_Bool (a g1)) as (λ _. (gam s ≡ gam m) ⊎ (((rho m ≡ 0) × (gam m < 15)) ⊎ (rho s ≡ rho m))) [
+        | inl t ↦
+            let at_row : a (row_var m 0) ≡ true = two-hold a (minus g1) (plus (row_var m 0)) is_zero (minus-false a g1 (omega arith) t) in
+            let at_zero : row_var m 0 + 0 ≡ row_var m 0 = omega arith in
+            let is0 : rho m ≡ 0 = hot-is a 32 (row_var m 0) (rho m) 0 hrm (omega arith) (ap a at_zero ∙ at_row) in
+            let not15 : gam m ≡ 15 → ⊥ = λ (e : gam m ≡ 15). from_minus a (col_var m 15) (omega arith) (two-hold a (minus g1) (minus (col_var m 15)) is_low (minus-false a g1 (omega arith) t)) (ap a (sym (col-at m 15)) ∙ hot-here a 16 (col_var m 0) (gam m) 15 hcm e) in
+            let in16 : gam m < 16 = hcm.within in
+            inr (inl (is0, below15 (gam m) in16 not15))
+        | inr f1 ↦
+            let t : a g2 ≡ true = three-hold a (plus g0) (plus g1) (plus g2) is_some f f1 in
+            inr (inr (sym (hot-is a 32 (row_var m 0) (rho m) (rho s) hrm hrs.within (same_where-holds a g2 32 (row_var s 0) (row_var m 0) (omega arith) hrs.above is_rows t (rho s) hrs.within (hot-here a 32 (row_var s 0) (rho s) (rho s) hrs refl)))))
       ]
     ]
   where
@@ -143,8 +141,8 @@ goto-holds a n rho gam s m hrs hcs hrm hcm h =
     below15 x lt ne = elim (cases_lt x 15) as (λ _. x < 15) [ inl h ↦ h | inr h ↦ absurd (ne (omega arith)) ]
 
 pub holds-goto : (a : ℕ → Bool) (n : ℕ) (rho gam : ℕ → ℕ) (s m : ℕ) → IsHot a 32 (row_var s 0) (rho s) → IsHot a 16 (col_var s 0) (gam s) → IsHot a 32 (row_var m 0) (rho m) → IsHot a 16 (col_var m 0) (gam m)
-  → a (goto_var n s 0) ≡ (gam s == gam m) → a (goto_var n s 1) ≡ ((rho m == 0) && nat_lt (gam m) 15) → a (goto_var n s 2) ≡ (rho s == rho m)
-  → GotoFits rho gam s m → AllHold a (goto_clauses n s m)
+    → a (goto_var n s 0) ≡ (gam s == gam m) → a (goto_var n s 1) ≡ ((rho m == 0) && nat_lt (gam m) 15) → a (goto_var n s 2) ≡ (rho s == rho m)
+    → GotoFits rho gam s m → AllHold a (goto_clauses n s m)
 unfolding GotoFits
 holds-goto a n rho gam s m hrs hcs hrm hcm e0 e1 e2 fits =
     let P : List ℤ → Type 0 = λ c. clause_holds a c ≡ true in
@@ -157,20 +155,20 @@ holds-goto a n rho gam s m hrs hcs hrm hcm e0 e1 e2 fits =
     let low : List (List ℤ) = one (minus g1 ∷ minus (col_var m 15) ∷ []) in
     let rows : List (List ℤ) = same_where g2 32 (row_var s 0) (row_var m 0) in
     All-append P (some ++ cols ++ zero_row ++ low) rows (All-append P (some ++ cols ++ zero_row) low (All-append P (some ++ cols) zero_row (All-append P some cols
-      (hold-three a (plus g0) (plus g1) (plus g2) (λ (f0 : a g0 ≡ false) (f1 : a g1 ≡ false). e2 ∙ last f0 f1 fits))
-      (holds-same_where a g0 16 (col_var s 0) (col_var m 0) (omega arith) hcs.above (λ t k lt h.
-        hot-here a 16 (col_var m 0) (gam m) k hcm (sym (eqb-true (gam s) (gam m) (sym e0 ∙ t)) ∙ hot-is a 16 (col_var s 0) (gam s) k hcs lt h))))
-      (hold-two a (minus g1) (plus (row_var m 0)) (λ (f : lit_holds a (minus g1) ≡ false).
-        let parts = and_parts (rho m == 0) (nat_lt (gam m) 15) (sym e1 ∙ from_not a g1 (omega arith) f) in
-        let at_zero : row_var m 0 + 0 ≡ row_var m 0 = omega arith in
-        ap a (sym at_zero) ∙ hot-here a 32 (row_var m 0) (rho m) 0 hrm (eqb-true (rho m) 0 parts.0))))
-      (hold-two a (minus g1) (minus (col_var m 15)) (λ (f : lit_holds a (minus g1) ≡ false).
-        let parts = and_parts (rho m == 0) (nat_lt (gam m) 15) (sym e1 ∙ from_not a g1 (omega arith) f) in
-        let low : gam m < 15 = ltb-true (gam m) 15 parts.1 in
-        to_minus a (col_var m 15) (omega arith) (λ (t : a (col_var m 15) ≡ true).
-          let e : gam m ≡ 15 = hot-is a 16 (col_var m 0) (gam m) 15 hcm (omega arith) (ap a (col-at m 15) ∙ t) in absurd (omega arith)))))
-      (holds-same_where a g2 32 (row_var s 0) (row_var m 0) (omega arith) hrs.above (λ t k lt h.
-        hot-here a 32 (row_var m 0) (rho m) k hrm (sym (eqb-true (rho s) (rho m) (sym e2 ∙ t)) ∙ hot-is a 32 (row_var s 0) (rho s) k hrs lt h)))
+    (hold-three a (plus g0) (plus g1) (plus g2) (λ (f0 : a g0 ≡ false) (f1 : a g1 ≡ false). e2 ∙ last f0 f1 fits))
+    (holds-same_where a g0 16 (col_var s 0) (col_var m 0) (omega arith) hcs.above (λ t k lt h.
+    hot-here a 16 (col_var m 0) (gam m) k hcm (sym (eqb-true (gam s) (gam m) (sym e0 ∙ t)) ∙ hot-is a 16 (col_var s 0) (gam s) k hcs lt h))))
+    (hold-two a (minus g1) (plus (row_var m 0)) (λ (f : lit_holds a (minus g1) ≡ false).
+    let parts = and_parts (rho m == 0) (nat_lt (gam m) 15) (sym e1 ∙ from_not a g1 (omega arith) f) in
+    let at_zero : row_var m 0 + 0 ≡ row_var m 0 = omega arith in
+    ap a (sym at_zero) ∙ hot-here a 32 (row_var m 0) (rho m) 0 hrm (eqb-true (rho m) 0 parts.0))))
+    (hold-two a (minus g1) (minus (col_var m 15)) (λ (f : lit_holds a (minus g1) ≡ false).
+    let parts = and_parts (rho m == 0) (nat_lt (gam m) 15) (sym e1 ∙ from_not a g1 (omega arith) f) in
+    let low : gam m < 15 = ltb-true (gam m) 15 parts.1 in
+    to_minus a (col_var m 15) (omega arith) (λ (t : a (col_var m 15) ≡ true).
+    let e : gam m ≡ 15 = hot-is a 16 (col_var m 0) (gam m) 15 hcm (omega arith) (ap a (col-at m 15) ∙ t) in absurd (omega arith)))))
+    (holds-same_where a g2 32 (row_var s 0) (row_var m 0) (omega arith) hrs.above (λ t k lt h.
+    hot-here a 32 (row_var m 0) (rho m) k hrm (sym (eqb-true (rho s) (rho m) (sym e2 ∙ t)) ∙ hot-is a 32 (row_var s 0) (rho s) k hrs lt h)))
   where
     last : a (goto_var n s 0) ≡ false → a (goto_var n s 1) ≡ false → (gam s ≡ gam m) ⊎ (((rho m ≡ 0) × (gam m < 15)) ⊎ (rho s ≡ rho m)) → (rho s == rho m) ≡ true
     last f0 f1 (inl e) = let t : true ≡ false = sym (eq-eqb (gam s) (gam m) e) ∙ sym e0 ∙ f0 in cc

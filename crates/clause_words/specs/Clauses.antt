@@ -95,7 +95,7 @@ flow_clauses n s k targets = test_clauses k s targets (first_real targets) (firs
 abbrev pub trap_pair : ℕ → Kind → ℕ → ℕ → ℕ → ℕ → List (List ℤ)
 trap_pair n k x e o z = if keeps_half k
     then one (plus (pair_var n x z) ∷ minus (col_var x (2 + e)) ∷ minus (col_var z (2 + o)) ∷ [])
-        ++ one (plus (pair_var n x z) ∷ minus (col_var x (10 + e)) ∷ minus (col_var z (10 + o)) ∷ [])
+    ++ one (plus (pair_var n x z) ∷ minus (col_var x (10 + e)) ∷ minus (col_var z (10 + o)) ∷ [])
     else one (plus (pair_var n x z) ∷ minus (col_var z (col_of k o 0)) ∷ [])
 
 -- the same of every label but x

@@ -1,5 +1,5 @@
-use Rattle.std.proofs.Common.{◌≡◌, ◌+◌, ◌++◌, ◌∙◌, List, ℤ, sym, ap, arith, refl}
-use Rattle.clause_words.specs.Number.{row_var, col_var, diff_var, minus, plus}
+use Rattle.std.proofs.Common.{◌≡◌, ◌∙◌, ap, refl}
+use Rattle.clause_words.specs.Number.{diff_var, minus, plus}
 use Rattle.clause_words.specs.Shape.{apart_unless}
 use Rattle.clause_words.specs.Clauses.{apart_clauses}
 use Rattle.clause_encode.proofs.AddsLemmas.{Adds-then, Adds-same}

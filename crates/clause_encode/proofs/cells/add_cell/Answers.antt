@@ -1,5 +1,4 @@
-use Rattle.std.proofs.Common.{◌≡◌, ◌+◌, ◌++◌, List, ℤ, sym, ap, arith, refl}
-use Rattle.clause_words.specs.Number.{row_var, col_var}
+use Rattle.std.proofs.Common.{refl}
 use Rattle.clause_words.specs.Shape.{one, any_of, no_two}
 use Rattle.clause_words.specs.Clauses.{cell_clauses}
 use Rattle.clause_encode.proofs.AddsLemmas.{Adds-then, Adds-same}

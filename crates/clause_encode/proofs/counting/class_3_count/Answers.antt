@@ -1,4 +1,4 @@
-use Rattle.std.proofs.Common.{◌≡◌, ◌≤◌, ◌+◌, ◌-◌, ◌*◌, ◌∙◌, ap, sym, subst, arith, length, List}
+use Rattle.std.proofs.Common.{◌≤◌, ◌+◌, ◌-◌, ◌*◌, ◌∙◌, sym, subst, arith, length, List}
 use Rattle.flow_graph.specs.declared.pinning.Pin.{Pin}
 use Rattle.flow_graph.specs.declared.programs.Program.{Program}
 use Rattle.flow_graph.specs.Graph.{graph_of}

@@ -1,4 +1,4 @@
-use Rattle.std.proofs.Common.{◌≡◌, ◌≤◌, ◌+◌, ◌*◌, ap, arith, length}
+use Rattle.std.proofs.Common.{ap, arith, length}
 use Rattle.clause_words.specs.Upto.{at_place}
 use Rattle.clause_words.specs.Clauses.{instr_clauses}
 use Rattle.clause_words.proofs.UptoLemmas.{upto-none}

@@ -1,4 +1,4 @@
-use Rattle.std.proofs.Common.{◌≡◌, ◌≤◌, ◌+◌, ◌∙◌, ap, sym, arith, length}
+use Rattle.std.proofs.Common.{◌∙◌, ap, sym, arith, length}
 use Rattle.mcu_jumps.specs.declared.codes.Kind.{Kind}
 use Rattle.clause_words.specs.Upto.{each_of}
 use Rattle.clause_words.specs.FirstLabel.{first_real, first_label}

@@ -1,4 +1,4 @@
-use Rattle.std.proofs.Common.{◌≡◌, ◌∙◌, ap, sym, length}
+use Rattle.std.proofs.Common.{◌∙◌, ap, sym, length}
 use Rattle.clause_words.specs.Upto.{each_of}
 use Rattle.clause_words.specs.FirstLabel.{first_real, first_label}
 use Rattle.clause_words.specs.Clauses.{trap_outcome, trap_clauses}

@@ -1,4 +1,4 @@
-use Rattle.std.proofs.Common.{◌≡◌, ◌+◌, ◌∙◌, ap}
+use Rattle.std.proofs.Common.{◌+◌, ◌∙◌, ap}
 use Rattle.clause_words.proofs.CountLemmas.{length-outcome_other}
 use Rattle.clause_encode.proofs.counting.outcome_count.Goals as goal
 

@@ -1,4 +1,4 @@
-use Rattle.std.proofs.Common.{◌≡◌, ◌∙◌, ap, length, ℕ, Option}
+use Rattle.std.proofs.Common.{◌∙◌, ap, length, ℕ, Option}
 use Rattle.clause_words.specs.Clauses.{trap_outcome}
 use Rattle.clause_words.proofs.CountLemmas.{length-free_landing}
 use Rattle.clause_encode.proofs.counting.trap_outcome_count.Goals as goal

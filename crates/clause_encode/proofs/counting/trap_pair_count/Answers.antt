@@ -1,4 +1,4 @@
-use Rattle.std.proofs.Common.{◌≡◌, ◌∙◌, ap, sym, true, false}
+use Rattle.std.proofs.Common.{◌∙◌, ap, sym}
 use Rattle.std.specs.Prelude.{if◌then◌else◌}
 use Rattle.clause_words.proofs.CountLemmas.{length-trap_pair}
 use Rattle.clause_encode.proofs.counting.trap_pair_count.Goals as goal

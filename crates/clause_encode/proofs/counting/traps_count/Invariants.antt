@@ -1,4 +1,4 @@
-use Rattle.std.proofs.Common.{◌≡◌, ◌≤◌, ◌*◌, ℕ, length}
+use Rattle.std.proofs.Common.{◌≡◌, ◌≤◌, ◌*◌, length}
 use Rattle.clause_words.specs.Upto.{upto, at_place}
 use Rattle.clause_words.specs.Clauses.{trap_outcome}
 use Rattle.clause_encode.proofs.counting.traps_count.Given as goal

@@ -1,10 +1,9 @@
-use Rattle.std.proofs.Common.{◌≡◌, ◌+◌, ◌<◌, ◌++◌, [], ◌∷◌, ℕ, true, length, ap, sym, subst, ◌∙◌, arith, List, Some}
+use Rattle.std.proofs.Common.{◌≡◌, ◌+◌, ◌<◌, ℕ, length, ap, sym, subst, ◌∙◌, arith, List, Some}
 use Rattle.std.specs.Prelude.{slice_get}
 use Rattle.std.proofs.lemmas.List.{length_push}
 use Rattle.mcu_jumps.specs.Position.{Position}
 use Rattle.flow_graph.specs.Graph.{graph_of}
 use Rattle.clause_words.specs.Truth.{AllHold, value_in}
-use Rattle.clause_words.specs.Number.{row_var, col_var}
 use Rattle.clause_words.specs.Shape.{one, any_of}
 use Rattle.clause_words.specs.PinCells.{HavePinCells}
 use Rattle.clause_words.proofs.DecodeLemmas.{IsReadCell, class_1-rows, read-from, read-more, legal-from}

@@ -1,9 +1,9 @@
-use Rattle.std.proofs.Common.{◌≡◌, ◌++◌, ◌∙◌, ap, sym, refl, subst, []}
+use Rattle.std.proofs.Common.{◌∙◌, ap, sym, refl, subst, []}
 use Rattle.clause_base.specs.Clauses.{Clauses}
 use Rattle.flow_graph.specs.Graph.{graph_of}
 use Rattle.clause_words.specs.Truth.{AllHold, value_in}
 use Rattle.clause_words.specs.Number.{var_count_of}
-use Rattle.clause_words.specs.Clauses.{class_1, class_2, class_3, class_4, class_5, clauses_of}
+use Rattle.clause_words.specs.Clauses.{class_1, class_2, clauses_of}
 use Rattle.clause_words.specs.Meaning.{meaning}
 use Rattle.clause_words.proofs.MeaningLemmas.{meaning-sound}
 use Rattle.clause_encode.proofs.AddsLemmas.{Adds-then, Adds-same, Adds-all}

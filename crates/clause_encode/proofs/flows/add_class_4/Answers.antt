@@ -1,4 +1,4 @@
-use Rattle.std.proofs.Common.{◌≡◌, ◌∙◌, ap, sym, Option, [], length}
+use Rattle.std.proofs.Common.{◌∙◌, ap, sym, Option, [], length}
 use Rattle.std.specs.Option.{option_map_or}
 use Rattle.flow_graph.specs.declared.instructions.Instr.{Instr}
 use Rattle.clause_words.specs.Clauses.{instr_clauses}

@@ -1,4 +1,4 @@
-use Rattle.std.proofs.Common.{◌≡◌, ◌∙◌, ◌++◌, ap, sym}
+use Rattle.std.proofs.Common.{◌∙◌, ◌++◌, ap, sym}
 use Rattle.mcu_jumps.specs.declared.codes.Kind.{Kind}
 use Rattle.mcu_jumps.specs.declared.codes.Kind.TheVariants as kind
 use Rattle.clause_words.specs.Number.{col_var}

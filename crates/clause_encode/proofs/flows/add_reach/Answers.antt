@@ -1,6 +1,5 @@
-use Rattle.std.proofs.Common.{◌∙◌, ap, arith}
+use Rattle.std.proofs.Common.{◌∙◌, arith}
 use Rattle.clause_words.specs.Shape.{one}
-use Rattle.clause_words.specs.Clauses.{reach_clause}
 use Rattle.clause_words.specs.Number.{row_var}
 use Rattle.clause_encode.proofs.ReachLemmas.{reach-valid}
 use Rattle.clause_encode.proofs.AddsLemmas.{Adds-upto_none, Adds-upto_more, Adds-same}

@@ -1,4 +1,4 @@
-use Rattle.std.proofs.Common.{◌≡◌, ◌∙◌, ap, sym, ℕ, Option, Some, None, []}
+use Rattle.std.proofs.Common.{◌∙◌, ap, sym, ℕ, Option, Some, None, []}
 use Rattle.std.specs.Option.{option_map_or}
 use Rattle.std.proofs.lemmas.Option.{slice_get-get_or}
 use Rattle.clause_words.specs.Clauses.{target_clauses}
