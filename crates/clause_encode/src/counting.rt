@@ -12,16 +12,16 @@ use crate::reaching::keeps_half;
 use flow_graph::{Instr, Program};
 use mcu_jumps::Kind;
 
-// The clauses that put a label into the column of an outcome.
-fn cols_count(kind: Kind) -> u32
+/// The clauses that put a label into the column of an outcome.
+pub(crate) fn cols_count(kind: Kind) -> u32
     ensures count { (s o y : ℕ) → length (col_clauses kind s o y) ≡ result }
     ensures few { result ≤ 16 }
 {
     if keeps_half(kind) { 16 } else { 1 }
 }
 
-// The clauses of an outcome's label.
-fn outcome_count(kind: Kind, first: FirstLabel, o: u32) -> u32
+/// The clauses of an outcome's label.
+pub(crate) fn outcome_count(kind: Kind, first: FirstLabel, o: u32) -> u32
     ensures count { (s y : ℕ) → length (outcome_clauses kind s first.outcome first.label o y) ≡ result }
     ensures few { result ≤ 48 }
 {
@@ -29,8 +29,8 @@ fn outcome_count(kind: Kind, first: FirstLabel, o: u32) -> u32
     if o == first.outcome { cols } else { 32 + cols }
 }
 
-// The clauses of an outcome's target.
-fn target_count(kind: Kind, first: FirstLabel, o: u32, target: Option<u16>) -> u32
+/// The clauses of an outcome's target.
+pub(crate) fn target_count(kind: Kind, first: FirstLabel, o: u32, target: Option<u16>) -> u32
     ensures count { (s : ℕ) → length (target_clauses kind s first.outcome first.label o target) ≡ result }
     ensures few { result ≤ 48 }
 {
@@ -40,8 +40,8 @@ fn target_count(kind: Kind, first: FirstLabel, o: u32, target: Option<u16>) -> u
     }
 }
 
-// The clauses of a test's targets.
-fn targets_count(kind: Kind, first: FirstLabel, targets: &[Option<u16>]) -> u32
+/// The clauses of a test's targets.
+pub(crate) fn targets_count(kind: Kind, first: FirstLabel, targets: &[Option<u16>]) -> u32
     requires { length targets.now ≡ outcomes_of kind }
     ensures count { (s : ℕ) → length (each_of targets.now (target_clauses kind s first.outcome first.label)) ≡ result }
     ensures few { result ≤ 768 }
@@ -53,8 +53,8 @@ fn targets_count(kind: Kind, first: FirstLabel, targets: &[Option<u16>]) -> u32
     count
 }
 
-// The clauses of an instruction in the fourth class.
-fn flow_count(instr: &Instr) -> u32
+/// The clauses of an instruction in the fourth class.
+pub(crate) fn flow_count(instr: &Instr) -> u32
     requires outcomes { length instr.now.targets ≡ outcomes_of instr.now.kind }
     requires label { HasLabel instr.now.targets }
     ensures count { (n s : ℕ) → length (flow_clauses n s instr.now.kind instr.now.targets) ≡ result }
@@ -69,8 +69,8 @@ fn flow_count(instr: &Instr) -> u32
     }
 }
 
-// The clauses that keep a label from where a trap outcome lands.
-fn trap_pair_count(kind: Kind) -> u32
+/// The clauses that keep a label from where a trap outcome lands.
+pub(crate) fn trap_pair_count(kind: Kind) -> u32
     ensures count { (n x e o z : ℕ) → length (trap_pair n kind x e o z) ≡ result }
     ensures some { 0 < result }
     ensures few { result ≤ 2 }
@@ -78,8 +78,13 @@ fn trap_pair_count(kind: Kind) -> u32
     if keeps_half(kind) { 2 } else { 1 }
 }
 
-// The clauses of an outcome's target in the fifth class.
-fn trap_outcome_count(labels: u32, kind: Kind, first: FirstLabel, target: Option<u16>) -> u32
+/// The clauses of an outcome's target in the fifth class.
+pub(crate) fn trap_outcome_count(
+    labels: u32,
+    kind: Kind,
+    first: FirstLabel,
+    target: Option<u16>,
+) -> u32
     requires labels { labels ≤ 512 }
     requires first { first.label < labels }
     ensures count { (o : ℕ) → length (trap_outcome labels kind first.label first.outcome o target) ≡ result }
@@ -91,8 +96,13 @@ fn trap_outcome_count(labels: u32, kind: Kind, first: FirstLabel, target: Option
     }
 }
 
-// The clauses of targets in the fifth class.
-fn traps_count(labels: u32, kind: Kind, first: FirstLabel, targets: &[Option<u16>]) -> u32
+/// The clauses of targets in the fifth class.
+pub(crate) fn traps_count(
+    labels: u32,
+    kind: Kind,
+    first: FirstLabel,
+    targets: &[Option<u16>],
+) -> u32
     requires outcomes { length targets.now ≡ outcomes_of kind }
     requires labels { labels ≤ 512 }
     requires first { first.label < labels }
@@ -106,8 +116,8 @@ fn traps_count(labels: u32, kind: Kind, first: FirstLabel, targets: &[Option<u16
     count
 }
 
-// The clauses of an instruction in the fifth class.
-fn instr_traps_count(labels: u32, instr: &Instr) -> u32
+/// The clauses of an instruction in the fifth class.
+pub(crate) fn instr_traps_count(labels: u32, instr: &Instr) -> u32
     requires labels { labels ≤ 512 }
     requires instr { IsInstr labels instr.now }
     ensures count { length (trap_clauses labels instr.now.kind instr.now.targets) ≡ result }
@@ -117,8 +127,8 @@ fn instr_traps_count(labels: u32, instr: &Instr) -> u32
     traps_count(labels, instr.kind, first_label_of(targets), targets)
 }
 
-// The third class.
-fn class_3_count(program: &Program) -> u32
+/// The third class.
+pub(crate) fn class_3_count(program: &Program) -> u32
     ensures count { length (class_3 (graph_of program.now)) ≡ result }
     ensures few { result ≤ 20000 }
 {
@@ -127,8 +137,8 @@ fn class_3_count(program: &Program) -> u32
     2 * pins + 2 + u32::from(program.len()) * free_rows
 }
 
-// The fourth class.
-fn class_4_count(program: &Program) -> u32
+/// The fourth class.
+pub(crate) fn class_4_count(program: &Program) -> u32
     ensures count { length (class_4 (graph_of program.now)) ≡ result }
     ensures few { result ≤ 409600 }
 {

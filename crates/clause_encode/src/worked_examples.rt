@@ -1,6 +1,6 @@
 //! Worked examples: the counts and clauses of small programs, from the rules by hand.
 use crate::program_tables::{Line, program};
-use crate::{clause_count, encode, var_count};
+use crate::{clause_at, clause_count, encode, var_count};
 use mcu_jumps::Kind;
 use std::test::Fail;
 
@@ -8,6 +8,14 @@ use std::test::Fail;
 const ONE_LABEL_TWICE: [Line; 2] = [
     ("A", Kind::IfF, &[Some(1), Some(1)]),
     ("B", Kind::Goto, &[Some(1)]),
+];
+
+// Statements of several kinds, with traps.
+const SEVERAL_KINDS: [Line; 4] = [
+    ("A", Kind::IfF, &[None, Some(1)]),
+    ("B", Kind::Enable, &[Some(2)]),
+    ("C", Kind::OnRight, &[None, Some(3), Some(3), None]),
+    ("D", Kind::Goto, &[Some(0)]),
 ];
 
 #[test]
@@ -30,6 +38,21 @@ fn one_label_for_both_outcomes(rt: HostRuntime) -> Result<(), Fail> {
         for (lit, value) in lits.iter().zip(values) {
             assert_eq!(rt; lit.value(), *value);
         }
+    }
+    Ok(())
+}
+
+// Each clause by its number is that of the list.
+#[test]
+fn each_clause_by_its_number(rt: HostRuntime) -> Result<(), Fail> {
+    let alloc = rt.alloc();
+    let program = program(alloc, 8, &[(1, 0, 3)], &SEVERAL_KINDS)?;
+    let list = encode(alloc, &program)?;
+    assert_eq!(rt; clause_count(&program), list.len());
+    for place in 0..list.len() {
+        let number = place + 1;
+        let clause = clause_at(alloc, &program, number)?;
+        assert_eq!(rt; clause.as_slice(), list.get(number));
     }
     Ok(())
 }

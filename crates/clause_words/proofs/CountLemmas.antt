@@ -1,6 +1,6 @@
 -- How many clauses there are in the later classes.
-use Rattle.std.proofs.Common.{◌≡◌, ◌≢◌, ℕ, ℤ, zero, suc, ◌+◌, ◌-◌, ◌*◌, ◌<◌, ◌≤◌, inl, inr, Bool, true, false, List, [], ◌∷◌, ◌++◌, length, Option, Some, None, refl, sym, ap, ◌∙◌, arith}
-use Rattle.std.specs.Prelude.{slice_get, if◌then◌else◌}
+use Rattle.std.proofs.Common.{◌≡◌, ◌≢◌, ℕ, ℤ, zero, suc, ◌+◌, ◌-◌, ◌*◌, ◌<◌, ◌≤◌, ◌⊎◌, inl, inr, Bool, true, false, List, [], ◌∷◌, ◌++◌, length, Option, Some, None, refl, sym, ap, subst, ◌∙◌, arith}
+use Rattle.std.specs.Prelude.{slice_get, ◌==◌, if◌then◌else◌}
 use Rattle.std.specs.Option.{option_map_or}
 use Rattle.std.proofs.lemmas.List.{length-append}
 use Rattle.std.proofs.lemmas.Nat.{mul-le}
@@ -9,13 +9,15 @@ use Rattle.std.proofs.lemmas.Option.{slice_get-get_or}
 use Rattle.mcu_jumps.specs.declared.codes.Kind.{Kind}
 use Rattle.mcu_jumps.specs.declared.codes.Kind.TheVariants as kind
 use Rattle.mcu_jumps.specs.Landing.{outcomes_of}
+use Rattle.flow_graph.specs.declared.pinning.Pin.{Pin}
 use Rattle.flow_graph.specs.Graph.{Graph}
-use Rattle.clause_words.specs.Upto.{upto, at_place, each_of}
+use Rattle.clause_words.specs.Upto.{upto, between, at_place, each_of}
 use Rattle.clause_words.specs.Number.{plus, minus, row_var, col_var, goto_var, pair_var, pairs_below}
 use Rattle.clause_words.specs.Shape.{one, same, same_where}
+use Rattle.clause_words.specs.FirstLabel.{first_real, first_label}
 use Rattle.clause_words.specs.Reaching.{col_of, keeps_half}
-use Rattle.clause_words.specs.Clauses.{at_clauses, bound_clauses, pin_clauses, goto_clauses, reach_lit, reach_clauses, col_clause, col_clauses, outcome_clauses, target_clauses, test_clauses, trap_pair, trap_of, class_1, class_2, class_3, class_4, class_5, clauses_of}
-use Rattle.clause_words.proofs.UptoLemmas.{upto-suc, length-upto, length-singles}
+use Rattle.clause_words.specs.Clauses.{at_clauses, bound_clauses, pin_clauses, goto_clauses, reach_lit, reach_clauses, col_clause, col_clauses, outcome_clauses, target_clauses, test_clauses, flow_clauses, trap_pair, trap_of, class_1, class_2, class_3, class_4, class_5, clauses_of}
+use Rattle.clause_words.proofs.UptoLemmas.{upto-none, upto-suc, length-upto, length-singles}
 use Rattle.clause_words.proofs.LengthLemmas.{length-more, length-class_1, length-class_2}
 
 -- the clauses of one element more
@@ -24,9 +26,9 @@ length-each_more {X} xs f i x m c there block before =
     let here : length (at_place xs f i) ≡ c = ap (λ (o : Option X). length (option_map_or (f i) o [])) there ∙ block in
     length-more i (at_place xs f) ∙ (let sum : length (upto i (at_place xs f)) + length (at_place xs f i) ≡ m + c = omega arith in sum)
 
--- elements with equally many clauses
-pub length-each : {X A : Type 0} (xs : List X) (f : ℕ → X → List A) (m : ℕ) → ((i : ℕ) (x : X) → length (f i x) ≡ m) → length (each_of xs f) ≡ length xs * m
-length-each {X} xs f m h = length-upto m (length xs) (at_place xs f) (λ i lt. block i lt (slice_get xs i) refl)
+-- the first elements, each with equally many clauses
+pub length-each_front : {X A : Type 0} (xs : List X) (f : ℕ → X → List A) (m k : ℕ) → ((i : ℕ) (x : X) → length (f i x) ≡ m) → k ≤ length xs → length (upto k (at_place xs f)) ≡ k * m
+length-each_front {X} xs f m k h le = length-upto m k (at_place xs f) (λ i lt. block i (omega arith) (slice_get xs i) refl)
   where
     block : (i : ℕ) → i < length xs → (o : Option X) → slice_get xs i ≡ o → length (option_map_or (f i) o []) ≡ m
     block i lt (Some x) at = h i x
@@ -36,18 +38,27 @@ length-each {X} xs f m h = length-upto m (length xs) (at_place xs f) (λ i lt. b
         by [] k within none = absurd (omega arith)
         by (y ∷ ys) k within none = let some = slice_get-get_or (y ∷ ys) k y within in cc
 
+-- elements with equally many clauses
+pub length-each : {X A : Type 0} (xs : List X) (f : ℕ → X → List A) (m : ℕ) → ((i : ℕ) (x : X) → length (f i x) ≡ m) → length (each_of xs f) ≡ length xs * m
+length-each xs f m h = length-each_front xs f m (length xs) h (omega arith)
+
+-- the run of n variables gives n clauses
 pub length-same : (n v w : ℕ) → length (same n v w) ≡ n
 length-same n v w = length-singles n (λ k. minus (v + k) ∷ plus (w + k) ∷ [])
 
+-- the same with a condition
 pub length-same_where : (g n v w : ℕ) → length (same_where g n v w) ≡ n
 length-same_where g n v w = length-singles n (λ k. minus g ∷ minus (v + k) ∷ plus (w + k) ∷ [])
 
+-- a clause for each row from the bound on
 pub length-bound : (rows i : ℕ) → length (bound_clauses rows i) ≡ 32 - rows
 length-bound rows i = length-singles (32 - rows) (λ k. minus (row_var i (rows + k)) ∷ [])
 
+-- a clause for each row
 pub length-reach : (k : Kind) (s x : ℕ) → length (reach_clauses k s x) ≡ 32
 length-reach k s x = length-singles 32 (λ r. minus (row_var s r) ∷ upto 32 (reach_lit k x r))
 
+-- `goto` has 51 clauses
 pub length-goto : (n s m : ℕ) → length (goto_clauses n s m) ≡ 51
 length-goto n s m =
     let g0 = goto_var n s 0 in
@@ -66,12 +77,14 @@ length-goto n s m =
     total : (l3 l2 l1 cols rows : ℕ) → l1 ≡ 1 + cols → l2 ≡ l1 + 1 → l3 ≡ l2 + 1 → cols ≡ 16 → rows ≡ 32 → l3 + rows ≡ 51
     total l3 l2 l1 cols rows a b c d e = omega arith
 
+-- `enable` has 48 clauses
 pub length-enable : (s m : ℕ) → length (same 16 (col_var s 0) (col_var m 0) ++ reach_clauses kind.Enable s m) ≡ 48
 length-enable s m = length-append (same 16 (col_var s 0) (col_var m 0)) (reach_clauses kind.Enable s m) ∙ total _ _ (length-same 16 (col_var s 0) (col_var m 0)) (length-reach kind.Enable s m)
   where
     total : (p q : ℕ) → p ≡ 16 → q ≡ 32 → p + q ≡ 48
     total p q a b = omega arith
 
+-- 16 clauses where the half is kept, and one where the column is fixed
 pub length-cols : (k : Kind) (s o y : ℕ) → length (col_clauses k s o y) ≡ (if keeps_half k then 16 else 1)
 length-cols k s o y = by (keeps_half k)
   where
@@ -85,9 +98,11 @@ length-outcome_other k s e x o y ne =
     ap (λ b. length ((if b then [] else same 32 (row_var x 0) (row_var y 0)) ++ col_clauses k s o y)) (ne_eqb o e ne)
     ∙ length-append (same 32 (row_var x 0) (row_var y 0)) (col_clauses k s o y) ∙ ap (λ m. m + length (col_clauses k s o y)) (length-same 32 (row_var x 0) (row_var y 0))
 
+-- a test has 32 clauses and those of its targets
 pub length-test : (k : Kind) (s : ℕ) (ts : List (Option ℕ)) (e x m : ℕ) → length (each_of ts (target_clauses k s e x)) ≡ m → length (test_clauses k s ts e x) ≡ 32 + m
 length-test k s ts e x m h = length-append (reach_clauses k s x) (each_of ts (target_clauses k s e x)) ∙ (λ i. length-reach k s x i + h i)
 
+-- a clause for each half, or one
 pub length-trap_pair : (n : ℕ) (k : Kind) (x e o z : ℕ) → length (trap_pair n k x e o z) ≡ (if keeps_half k then 2 else 1)
 length-trap_pair n k x e o z = by (keeps_half k)
   where
@@ -99,6 +114,7 @@ length-trap_pair n k x e o z = by (keeps_half k)
 pub trap_of-other : (n : ℕ) (k : Kind) (x e o z : ℕ) → z ≢ x → trap_of n k x e o z ≡ trap_pair n k x e o z
 trap_of-other n k x e o z ne = ap (λ b. if b then [] else trap_pair n k x e o z) (ne_eqb z x ne)
 
+-- the first target has no clause
 pub trap_of-same : (n : ℕ) (k : Kind) (x e o z : ℕ) → z ≡ x → trap_of n k x e o z ≡ []
 trap_of-same n k x e o z same = ap (λ b. if b then [] else trap_pair n k x e o z) (eq-eqb z x same)
 

@@ -31,30 +31,37 @@ pub record IsTest (k : Kind) (c : Code) : Type 0 where
   pub few : (outcomes_of k ≤ 6) ⊎ (keeps_half k ≡ false)
   pub clauses : (n s : ℕ) (ts : List (Option ℕ)) → flow_clauses n s k ts ≡ test_clauses k s ts (first_real ts) (first_label ts)
 
+-- `iff` becomes JFL
 pub test_iff : IsTest kind.IfF code.Jfl
 unfolding flow_clauses
 test_iff = record { kind = kind_iff; cols = cols_iff; few = inl (omega arith); clauses = λ n s ts. refl }
 
+-- `ifc` becomes JCF
 pub test_ifc : IsTest kind.IfC code.Jcf
 unfolding flow_clauses
 test_ifc = record { kind = kind_ifc; cols = cols_ifc; few = inl (omega arith); clauses = λ n s ts. refl }
 
+-- `ifz` becomes JZF
 pub test_ifz : IsTest kind.IfZ code.Jzf
 unfolding flow_clauses
 test_ifz = record { kind = kind_ifz; cols = cols_ifz; few = inl (omega arith); clauses = λ n s ts. refl }
 
+-- `onpr` becomes JPR
 pub test_onpr : IsTest kind.OnPr code.Jpr
 unfolding flow_clauses
 test_onpr = record { kind = kind_onpr; cols = cols_onpr; few = inr refl; clauses = λ n s ts. refl }
 
+-- `onpx` becomes JPX
 pub test_onpx : IsTest kind.OnPx code.Jpx
 unfolding flow_clauses
 test_onpx = record { kind = kind_onpx; cols = cols_onpx; few = inr refl; clauses = λ n s ts. refl }
 
+-- `onleft` becomes JLL
 pub test_onleft : IsTest kind.OnLeft code.Jll
 unfolding flow_clauses
 test_onleft = record { kind = kind_onleft; cols = cols_onleft; few = inr refl; clauses = λ n s ts. refl }
 
+-- `onright` becomes JRL
 pub test_onright : IsTest kind.OnRight code.Jrl
 unfolding flow_clauses
 test_onright = record { kind = kind_onright; cols = cols_onright; few = inr refl; clauses = λ n s ts. refl }

@@ -17,15 +17,19 @@ use Rattle.clause_words.proofs.KindLemmas.{IsKindOf}
 use Rattle.clause_words.proofs.TestLemmas.{TestFits, InRange}
 use Rattle.clause_words.proofs.TrapLemmas.{TrapsFree}
 
+-- the row of a label by its cell
 pub row-of : (place : List Position) (i : ℕ) (p : Position) → slice_get place i ≡ Some p → row_at place i ≡ p.row
 row-of place i p e = ap (λ (o : Option Position). option_map_or (λ (p : Position). p.row) o 0) e
 
+-- the column of a label by its cell
 pub col-of : (place : List Position) (i : ℕ) (p : Position) → slice_get place i ≡ Some p → col_at place i ≡ p.col
 col-of place i p e = ap (λ (o : Option Position). option_map_or (λ (p : Position). p.col) o 0) e
 
+-- a cell for places past the end
 pub origin : Position
 origin = record { row = 0; col = 0 }
 
+-- each label has a cell
 pub cell-at : (place : List Position) (n i : ℕ) → length place ≡ n → i < n → (p : Position) × (slice_get place i ≡ Some p)
 cell-at place n i len lt = (get_or place i origin, slice_get-get_or place i origin (omega arith))
 

@@ -21,6 +21,7 @@ pub record IsKindOf (k : Kind) (c : Code) : Type 0 where
   pub admitted : (j : JumpWord) → Admits k j → j.code ≡ c
   pub one_col : (col o p : ℕ) → col_of k o col ≡ col_of k p col → o ≡ p
 
+-- the columns of `iff`
 pub cols_iff : HasCols kind.IfF 2
 cols_iff = record {
   below = λ c o c_in o_in. omega arith;
@@ -31,6 +32,7 @@ cols_iff = record {
   ];
 }
 
+-- the jumps of `iff`
 pub kind_iff : IsKindOf kind.IfF code.Jfl
 kind_iff = record {
   operand = λ r q r_in q_in e. let same : q / 16 ≡ r / 16 = eqb-true (q / 16) (r / 16) e in (q % 16, omega arith, omega arith);
@@ -41,6 +43,7 @@ kind_iff = record {
   one_col = λ col o p e. omega arith;
 }
 
+-- the columns of `ifc`
 pub cols_ifc : HasCols kind.IfC 2
 cols_ifc = record {
   below = λ c o c_in o_in. omega arith;
@@ -51,6 +54,7 @@ cols_ifc = record {
   ];
 }
 
+-- the jumps of `ifc`
 pub kind_ifc : IsKindOf kind.IfC code.Jcf
 kind_ifc = record {
   operand = λ r q r_in q_in e. let same : q / 8 ≡ r / 8 = eqb-true (q / 8) (r / 8) e in (q % 8, omega arith, omega arith);
@@ -61,6 +65,7 @@ kind_ifc = record {
   one_col = λ col o p e. omega arith;
 }
 
+-- the columns of `ifz`
 pub cols_ifz : HasCols kind.IfZ 2
 cols_ifz = record {
   below = λ c o c_in o_in. omega arith;
@@ -71,6 +76,7 @@ cols_ifz = record {
   ];
 }
 
+-- the jumps of `ifz`
 pub kind_ifz : IsKindOf kind.IfZ code.Jzf
 kind_ifz = record {
   operand = λ r q r_in q_in e. let same : q / 8 ≡ r / 8 = eqb-true (q / 8) (r / 8) e in (q % 8, omega arith, omega arith);
@@ -81,6 +87,7 @@ kind_ifz = record {
   one_col = λ col o p e. omega arith;
 }
 
+-- the columns of `onpr`
 pub cols_onpr : HasCols kind.OnPr 16
 cols_onpr = record {
   below = λ c o c_in o_in. omega arith;
@@ -88,6 +95,7 @@ cols_onpr = record {
   halves = λ e c c_in. cc;
 }
 
+-- the jumps of `onpr`
 pub kind_onpr : IsKindOf kind.OnPr code.Jpr
 kind_onpr = record {
   operand = λ r q r_in q_in e. let same : q / 8 ≡ r / 8 = eqb-true (q / 8) (r / 8) e in (q % 8, omega arith, omega arith);
@@ -98,6 +106,7 @@ kind_onpr = record {
   one_col = λ col o p e. omega arith;
 }
 
+-- the columns of `onpx`
 pub cols_onpx : HasCols kind.OnPx 16
 cols_onpx = record {
   below = λ c o c_in o_in. omega arith;
@@ -105,6 +114,7 @@ cols_onpx = record {
   halves = λ e c c_in. cc;
 }
 
+-- the jumps of `onpx`
 pub kind_onpx : IsKindOf kind.OnPx code.Jpx
 kind_onpx = record {
   operand = λ r q r_in q_in e. let same : q / 4 ≡ r / 4 = eqb-true (q / 4) (r / 4) e in (q % 4, omega arith, omega arith);
@@ -115,6 +125,7 @@ kind_onpx = record {
   one_col = λ col o p e. omega arith;
 }
 
+-- the columns of `onleft`
 pub cols_onleft : HasCols kind.OnLeft 4
 cols_onleft = record {
   below = λ c o c_in o_in. omega arith;
@@ -122,6 +133,7 @@ cols_onleft = record {
   halves = λ e c c_in. cc;
 }
 
+-- the jumps of `onleft`
 pub kind_onleft : IsKindOf kind.OnLeft code.Jll
 kind_onleft = record {
   operand = λ r q r_in q_in e. let same : q / 8 ≡ r / 8 = eqb-true (q / 8) (r / 8) e in (q % 8, omega arith, omega arith);
@@ -132,6 +144,7 @@ kind_onleft = record {
   one_col = λ col o p e. omega arith;
 }
 
+-- the columns of `onright`
 pub cols_onright : HasCols kind.OnRight 4
 cols_onright = record {
   below = λ c o c_in o_in. omega arith;
@@ -139,6 +152,7 @@ cols_onright = record {
   halves = λ e c c_in. cc;
 }
 
+-- the jumps of `onright`
 pub kind_onright : IsKindOf kind.OnRight code.Jrl
 kind_onright = record {
   operand = λ r q r_in q_in e.

@@ -16,3 +16,4 @@ pub mod DecodeLemmas
 pub mod MeaningLemmas
 pub mod PinLemmas
 pub mod CountLemmas
+pub mod NumberedLemmas

@@ -20,20 +20,24 @@ use Rattle.clause_words.specs.Meaning.{row_at, col_at, one_hot, cell_truths, dif
 use Rattle.clause_words.proofs.UptoLemmas.{length-upto, length-upto-le, length-singles, slice_get-singles, slice_get-upto, slice_get-blocks, slice_get-append_left, slice_get-append_right, length-triangle}
 use Rattle.clause_words.proofs.SoundLemmas.{IsMeant, legal-sound}
 
+-- the value at the place before its number
 value-at : (vs : List Bool) (p v : ℕ) (b : Bool) → p + 1 ≡ v → slice_get vs p ≡ Some b → value_in vs v ≡ b
 value-at vs p v b e h =
     let at : v - 1 ≡ p = omega arith in
     get_or_from_slice_get vs (v - 1) b false (ap (slice_get vs) at ∙ h)
 
+-- n values
 length-one_hot : (n v : ℕ) → length (one_hot n v) ≡ n
 length-one_hot n v = length-singles n (λ k. v == k)
 
+-- a label has 48 values
 length-cell_truths : (place : List Position) (i : ℕ) → length (cell_truths place i) ≡ 48
 length-cell_truths place i = length-append (one_hot 32 (row_at place i)) (one_hot 16 (col_at place i)) ∙ total _ _ (length-one_hot 32 (row_at place i)) (length-one_hot 16 (col_at place i))
   where
     total : (p q : ℕ) → p ≡ 32 → q ≡ 16 → p + q ≡ 48
     total p q a b = omega arith
 
+-- an instruction has three values
 length-flow_truths : (place : List Position) (s : ℕ) (x : Instr) → length (instr_truths place s x) ≡ 3
 length-flow_truths place s x = by x.kind
   where
@@ -41,6 +45,7 @@ length-flow_truths place s x = by x.kind
     by kind.Goto = refl
     by _ = refl
 
+-- the list of values is the table
 pub meaning-meant : (g : Graph) (place : List Position) → IsMeant (value_in (meaning g place)) g place
 unfolding meaning
 meaning-meant g place = record {

@@ -76,6 +76,7 @@ one-jump a n place s from ts m k j w jump admitted row col = (j, record { jump =
 lands-row : (place : List Position) (from : Position) (ts : List (Option ℕ)) (m : ℕ) (k : Kind) (j : JumpWord) → slice_get ts 0 ≡ Some (Some m) → CanJump place k ts from j → row_at place m ≡ row_after j.code from.row j.operand
 lands-row place from ts m k j first can = row-of place m (lands from j 0) (can.landings 0 (Some m) first)
 
+-- the column of the target, by a jump
 lands-col : (place : List Position) (from : Position) (ts : List (Option ℕ)) (m : ℕ) (k : Kind) (j : JumpWord) → slice_get ts 0 ≡ Some (Some m) → CanJump place k ts from j → col_at place m ≡ col_after j.code from.col j.operand 0
 lands-col place from ts m k j first can = col-of place m (lands from j 0) (can.landings 0 (Some m) first)
 

@@ -6,7 +6,8 @@ use Rattle.std.proofs.lemmas.Bool.{ne_eqb, eqb-true, or_cases}
 use Rattle.std.proofs.lemmas.List.{length-map}
 use Rattle.std.proofs.lemmas.Map.Steps.{length-le_from_distinct_below}
 use Rattle.flow_graph.specs.declared.pinning.Pin.{Pin}
-use Rattle.flow_graph.specs.Graph.{Graph}
+use Rattle.flow_graph.specs.Graph.{Graph, graph_of}
+use Rattle.flow_graph.specs.declared.programs.Program.{Program}
 use Rattle.clause_words.proofs.CanJump.{IsValid}
 
 -- the label of a pin
@@ -37,8 +38,15 @@ label-in_range (p ∷ pins) n h label e =
     ]
 
 -- there are at most as many pins as labels
-pub few-pins : (g : Graph) → IsValid g → length g.pins ≤ length g.instrs
+few-pins : (g : Graph) → IsValid g → length g.pins ≤ length g.instrs
 few-pins g valid =
     let long : length (map label_of g.pins) ≤ length g.instrs =
     length-le_from_distinct_below (map label_of g.pins) (length g.instrs) (labels-distinct g.pins valid.pinned_once) (label-in_range g.pins (length g.instrs) valid.pins_in_range) in
     subst (λ l. l ≤ length g.instrs) (length-map g.pins label_of) long
+
+-- a program has at most 512 pins
+pub few-pins_of : (program : Program) → length (graph_of program).pins ≤ 512
+few-pins_of program =
+    let few : length (graph_of program).pins ≤ length (graph_of program).instrs = few-pins (graph_of program) program.valid in
+    let labels : length (graph_of program).instrs ≤ 512 = program.valid.cells_for_all in
+    omega arith

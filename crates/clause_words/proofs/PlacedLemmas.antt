@@ -28,6 +28,7 @@ cell-holds a i h =
       hot-from a 16 (col_var i 0) (omega arith) (All-append_right P rows cols both) (All-append_right P ((rows ++ cols) ++ no_two 32 (row_var i 0)) (no_two 16 (col_var i 0)) h),
     )
 
+-- and the other way round
 pub holds-cell : (a : ℕ → Bool) (i r c : ℕ) → IsHot a 32 (row_var i 0) r → IsHot a 16 (col_var i 0) c → AllHold a (cell_clauses i)
 unfolding cell_clauses
 holds-cell a i r c h k =
@@ -38,9 +39,11 @@ holds-cell a i r c h k =
     (All-append P (rows ++ cols) (no_two 32 (row_var i 0)) (All-append P rows cols (hot-any a 32 (row_var i 0) r h) (hot-any a 16 (col_var i 0) c k)) (hot-no_two a 32 (row_var i 0) r h))
     (hot-no_two a 16 (col_var i 0) c k)
 
+-- class 1 says that each label has one row and one column
 pub class_1-holds : (a : ℕ → Bool) (n : ℕ) → AllHold a (class_1 n) → (i : ℕ) → i < n → ((r : ℕ) × IsHot a 32 (row_var i 0) r) × ((c : ℕ) × IsHot a 16 (col_var i 0) c)
 class_1-holds a n h i lt = cell-holds a i (upto-All (λ c. clause_holds a c ≡ true) n cell_clauses h i lt)
 
+-- and the other way round
 pub holds-class_1 : (a : ℕ → Bool) (n : ℕ) (rho gam : ℕ → ℕ) → IsPlaced a n rho gam → AllHold a (class_1 n)
 holds-class_1 a n rho gam h = All-upto (λ c. clause_holds a c ≡ true) n cell_clauses (λ i lt. holds-cell a i (rho i) (gam i) (h.rows i lt) (h.cols i lt))
 
@@ -57,6 +60,7 @@ apart-differ a n j i ri ci rj cj hri hci hrj hcj h =
       (λ (f : a d ≡ false) (e : ci ≡ cj). apart-holds a (plus d) 16 (col_var i 0) (col_var j 0) hci.above hcj.above cols f ci hci.within (hot-here a 16 (col_var i 0) ci ci hci refl) (hot-here a 16 (col_var j 0) cj ci hcj (sym e))),
     )
 
+-- and the other way round
 pub holds-apart_clauses : (a : ℕ → Bool) (n j i ri ci rj cj : ℕ) → IsHot a 32 (row_var i 0) ri → IsHot a 16 (col_var i 0) ci → IsHot a 32 (row_var j 0) rj → IsHot a 16 (col_var j 0) cj
     → (a (diff_var n i j) ≡ true → ri ≢ rj) → (a (diff_var n i j) ≡ false → ci ≢ cj) → AllHold a (apart_clauses n j i)
 unfolding apart_clauses
@@ -73,6 +77,7 @@ pub record Differ (a : ℕ → Bool) (n : ℕ) (rho gam : ℕ → ℕ) (i j : �
   pub rows : a (diff_var n i j) ≡ true → rho i ≢ rho j
   pub cols : a (diff_var n i j) ≡ false → gam i ≢ gam j
 
+-- class 2 says of two labels what their variable means
 pub class_2-holds : (a : ℕ → Bool) (n : ℕ) (rho gam : ℕ → ℕ) → IsPlaced a n rho gam → AllHold a (class_2 n) → (i j : ℕ) → i < j → j < n → Differ a n rho gam i j
 class_2-holds a n rho gam p h i j lt below =
     let row : AllHold a (apart_from_earlier n j) = upto-All (λ c. clause_holds a c ≡ true) n (apart_from_earlier n) h j below in
@@ -80,6 +85,7 @@ class_2-holds a n rho gam p h i j lt below =
     let within : i < n = omega arith in
     let r = apart-differ a n j i (rho i) (gam i) (rho j) (gam j) (p.rows i within) (p.cols i within) (p.rows j below) (p.cols j below) here in record { rows = r.0; cols = r.1 }
 
+-- and the other way round
 pub holds-class_2 : (a : ℕ → Bool) (n : ℕ) (rho gam : ℕ → ℕ) → IsPlaced a n rho gam → ((i j : ℕ) → i < j → j < n → Differ a n rho gam i j) → AllHold a (class_2 n)
 holds-class_2 a n rho gam p h =
     All-upto (λ c. clause_holds a c ≡ true) n (apart_from_earlier n) (λ j below. All-upto (λ c. clause_holds a c ≡ true) j (apart_clauses n j) (λ i lt.
@@ -87,6 +93,7 @@ holds-class_2 a n rho gam p h =
     let d = h i j lt below in
     holds-apart_clauses a n j i (rho i) (gam i) (rho j) (gam j) (p.rows i within) (p.cols i within) (p.rows j below) (p.cols j below) d.rows d.cols))
 
+-- two labels whose rows and columns are the same are one
 pub differ-apart : (a : ℕ → Bool) (n : ℕ) (rho gam : ℕ → ℕ) (i j : ℕ) → Differ a n rho gam i j → rho i ≡ rho j → gam i ≡ gam j → ⊥
 differ-apart a n rho gam i j d e f = elim (cases_Bool (a (diff_var n i j))) as (λ _. ⊥) [ inl t ↦ d.rows t e | inr t ↦ d.cols t f ]
 
@@ -94,12 +101,15 @@ differ-apart a n rho gam i j d e f = elim (cases_Bool (a (diff_var n i j))) as (
 unfoldable pub GotoFits : (ℕ → ℕ) → (ℕ → ℕ) → ℕ → ℕ → Type 0
 GotoFits rho gam s m = (gam s ≡ gam m) ⊎ (((rho m ≡ 0) × (gam m < 15)) ⊎ (rho s ≡ rho m))
 
+-- the row variables are a run
 row-at : (m r : ℕ) → row_var m 0 + r ≡ row_var m r
 row-at m r = omega arith
 
+-- the column variables are a run
 col-at : (m c : ℕ) → col_var m 0 + c ≡ col_var m c
 col-at m c = omega arith
 
+-- the clauses of `goto` say where its target stands
 pub goto-holds : (a : ℕ → Bool) (n : ℕ) (rho gam : ℕ → ℕ) (s m : ℕ) → IsHot a 32 (row_var s 0) (rho s) → IsHot a 16 (col_var s 0) (gam s) → IsHot a 32 (row_var m 0) (rho m) → IsHot a 16 (col_var m 0) (gam m)
     → AllHold a (goto_clauses n s m) → GotoFits rho gam s m
 unfolding GotoFits
@@ -140,6 +150,7 @@ goto-holds a n rho gam s m hrs hcs hrm hcm h =
     below15 : (x : ℕ) → x < 16 → (x ≡ 15 → ⊥) → x < 15
     below15 x lt ne = elim (cases_lt x 15) as (λ _. x < 15) [ inl h ↦ h | inr h ↦ absurd (ne (omega arith)) ]
 
+-- and the other way round
 pub holds-goto : (a : ℕ → Bool) (n : ℕ) (rho gam : ℕ → ℕ) (s m : ℕ) → IsHot a 32 (row_var s 0) (rho s) → IsHot a 16 (col_var s 0) (gam s) → IsHot a 32 (row_var m 0) (rho m) → IsHot a 16 (col_var m 0) (gam m)
     → a (goto_var n s 0) ≡ (gam s == gam m) → a (goto_var n s 1) ≡ ((rho m == 0) && nat_lt (gam m) 15) → a (goto_var n s 2) ≡ (rho s == rho m)
     → GotoFits rho gam s m → AllHold a (goto_clauses n s m)

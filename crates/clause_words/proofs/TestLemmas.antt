@@ -17,9 +17,11 @@ use Rattle.clause_words.proofs.UptoLemmas.{All-upto, upto-All, any-upto, upto-an
 use Rattle.clause_words.proofs.TruthLemmas.{IsHot, hot-here, hot-is, same-holds, holds-same, unit-holds, holds-unit, two-hold, hold-two, minus-false, minus-true, from_not, one-holds, holds-one, one_of}
 use Rattle.clause_words.proofs.PlacedLemmas.{IsPlaced}
 
+-- the row variables are a run
 pub row-at : (m r : ℕ) → row_var m 0 + r ≡ row_var m r
 row-at m r = omega arith
 
+-- the column variables are a run
 pub col-at : (m c : ℕ) → col_var m 0 + c ≡ col_var m c
 col-at m c = omega arith
 
@@ -29,6 +31,7 @@ each-holds a xs f i x h e =
     let here : AllHold a (option_map_or (f i) (slice_get xs i) []) = upto-All (λ c. clause_holds a c ≡ true) (length xs) (λ i. option_map_or (f i) (slice_get xs i) []) h i (slice_get_within xs i x e) in
     subst (λ o. AllHold a (option_map_or (f i) o [])) e here
 
+-- and the other way round
 pub holds-each : {X : Type 0} (a : ℕ → Bool) (xs : List X) (f : ℕ → X → List (List ℤ)) → ((i : ℕ) (x : X) → slice_get xs i ≡ Some x → AllHold a (f i x)) → AllHold a (each_of xs f)
 holds-each {X} a xs f h = All-upto (λ c. clause_holds a c ≡ true) (length xs) (λ i. option_map_or (f i) (slice_get xs i) []) (λ i lt. by i (slice_get xs i) refl)
   where
@@ -53,6 +56,7 @@ reach-holds a k s x r q hs hx h =
     by p lt true e h = ap (reaches k r) (hot-is a 32 (row_var x 0) q p hx lt (one_of (a (row_var x 0 + p)) h)) ∙ e
     by p lt false e h = cc
 
+-- and the other way round
 pub holds-reach : (a : ℕ → Bool) (k : Kind) (s x r q : ℕ) → IsHot a 32 (row_var s 0) r → IsHot a 32 (row_var x 0) q → reaches k r q ≡ true → AllHold a (reach_clauses k s x)
 holds-reach a k s x r q hs hx e =
     All-upto (λ c. clause_holds a c ≡ true) 32 (reach_clause k s x) (λ p lt.
@@ -97,6 +101,7 @@ col-holds a k count s o y c d has few hs hy h = by (keeps_half k) refl h
         let there : a (col_var y (col_of k o 0)) ≡ true = unit-holds a (plus (col_var y (col_of k o 0))) h in
         hot-is a 16 (col_var y 0) d (col_of k o 0) hy (has.below 0 o (omega arith) few) (ap a (col-at y (col_of k o 0)) ∙ there) ∙ sym (has.fixed e c o)
 
+-- and the other way round
 pub holds-col : (a : ℕ → Bool) (k : Kind) (count s o y c d : ℕ) → HasCols k count → IsHot a 16 (col_var s 0) c → IsHot a 16 (col_var y 0) d → d ≡ col_of k o c → AllHold a (col_clauses k s o y)
 holds-col a k count s o y c d has hs hy e = by (keeps_half k) refl
   where
@@ -113,9 +118,11 @@ pub record TestFits (k : Kind) (rho gam : ℕ → ℕ) (s : ℕ) (ts : List (Opt
   pub rows : (o y : ℕ) → slice_get ts o ≡ Some (Some y) → rho x ≡ rho y
   pub cols : (o y : ℕ) → slice_get ts o ≡ Some (Some y) → gam y ≡ col_of k o (gam s)
 
+-- each target that is a label is below n
 unfoldable pub InRange : List (Option ℕ) → ℕ → Type 0
 InRange ts n = (o y : ℕ) → slice_get ts o ≡ Some (Some y) → y < n
 
+-- the clauses of a test say where its labels stand
 pub test-holds : (a : ℕ → Bool) (n : ℕ) (rho gam : ℕ → ℕ) (k : Kind) (s : ℕ) (ts : List (Option ℕ)) (e x : ℕ) → IsPlaced a n rho gam → HasCols k (length ts) → s < n → InRange ts n → slice_get ts e ≡ Some (Some x)
     → AllHold a (test_clauses k s ts e x) → TestFits k rho gam s ts x
 unfolding InRange
@@ -141,6 +148,7 @@ test-holds a n rho gam k s ts e x p has s_in in_range first h =
     row o y there false same_o y_in x_in h =
         sym (hot-is a 32 (row_var y 0) (rho y) (rho x) (p.rows y y_in) (p.rows x x_in).within (same-holds a 32 (row_var x 0) (row_var y 0) (p.rows x x_in).above h (rho x) (p.rows x x_in).within (hot-here a 32 (row_var x 0) (rho x) (rho x) (p.rows x x_in) refl)))
 
+-- and the other way round
 pub holds-test : (a : ℕ → Bool) (n : ℕ) (rho gam : ℕ → ℕ) (k : Kind) (s : ℕ) (ts : List (Option ℕ)) (e x : ℕ) → IsPlaced a n rho gam → HasCols k (length ts) → s < n → InRange ts n → x < n
     → TestFits k rho gam s ts x → AllHold a (test_clauses k s ts e x)
 unfolding InRange

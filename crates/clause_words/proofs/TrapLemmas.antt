@@ -21,9 +21,11 @@ pub record Apart (a : ℕ → Bool) (n : ℕ) (rho : ℕ → ℕ) (x z : ℕ) : 
   pub above : 0 < pair_var n x z
   pub differ : a (pair_var n x z) ≡ true → rho x ≡ rho z → ⊥
 
+-- the variable of the column that a label has
 at-col : (a : ℕ → Bool) (y c p : ℕ) → IsHot a 16 (col_var y 0) c → c ≡ p → a (col_var y p) ≡ true
 at-col a y c p h e = ap a (sym (col-at y p)) ∙ hot-here a 16 (col_var y 0) c p h e
 
+-- a label has the column whose variable is true
 col-is : (a : ℕ → Bool) (y c p : ℕ) → IsHot a 16 (col_var y 0) c → p < 16 → a (col_var y p) ≡ true → c ≡ p
 col-is a y c p h lt e = hot-is a 16 (col_var y 0) c p h lt (ap a (col-at y p) ∙ e)
 
@@ -33,6 +35,7 @@ pub guard-holds : (a : ℕ → Bool) (d x z p q cx cz : ℕ) → IsHot a 16 (col
 guard-holds a d x z p q cx cz hx hz h f e g =
     from_minus a (col_var z q) (omega arith) (three-hold a (plus d) (minus (col_var x p)) (minus (col_var z q)) h f (minus-false a (col_var x p) (omega arith) (at-col a x cx p hx e))) (at-col a z cz q hz g)
 
+-- and the other way round
 pub holds-guard : (a : ℕ → Bool) (d x z p q cx cz : ℕ) → IsHot a 16 (col_var x 0) cx → IsHot a 16 (col_var z 0) cz → p < 16 → q < 16
     → (a d ≡ false → cx ≡ p → cz ≡ q → ⊥) → AllHold a (one (plus d ∷ minus (col_var x p) ∷ minus (col_var z q) ∷ []))
 holds-guard a d x z p q cx cz hx hz p_in q_in h =
@@ -63,6 +66,7 @@ trap-holds a n rho k count x e o z c cx cz has c_in hx hz d first h same_row at 
     ]
     by false f h = from_minus a (col_var z (col_of k o 0)) (omega arith) (two-hold a (plus (pair_var n x z)) (minus (col_var z (col_of k o 0))) h d_false) (at-col a z cz (col_of k o 0) hz (at ∙ has.fixed f c o))
 
+-- and the other way round
 pub holds-trap : (a : ℕ → Bool) (n : ℕ) (rho : ℕ → ℕ) (k : Kind) (count x e o z c cx cz : ℕ) → HasCols k count → c < 16 → e < count → o < count → count ≤ 6 ⊎ (keeps_half k ≡ false)
     → IsHot a 16 (col_var x 0) cx → IsHot a 16 (col_var z 0) cz → (a (pair_var n x z) ≡ false → rho x ≡ rho z) → cx ≡ col_of k e c
     → (rho x ≡ rho z → cz ≡ col_of k o c → ⊥) → AllHold a (trap_pair n k x e o z)
@@ -91,6 +95,7 @@ holds-trap a n rho k count x e o z c cx cz has c_in e_in o_in few hx hz same_row
 unfoldable pub TrapsFree : Kind → ℕ → (ℕ → ℕ) → (ℕ → ℕ) → ℕ → List (Option ℕ) → ℕ → Type 0
 TrapsFree k n rho gam s ts x = (o z : ℕ) → slice_get ts o ≡ Some None → z < n → z ≢ x → rho x ≡ rho z → gam z ≡ col_of k o (gam s) → ⊥
 
+-- class 5 says that trap outcomes land on no label
 pub traps-hold : (a : ℕ → Bool) (n : ℕ) (rho gam : ℕ → ℕ) (k : Kind) (s : ℕ) (ts : List (Option ℕ)) → IsPlaced a n rho gam → HasCols k (length ts) → s < n → first_label ts < n
     → ((x z : ℕ) → x < n → z < n → x ≢ z → Apart a n rho x z) → gam (first_label ts) ≡ col_of k (first_real ts) (gam s)
     → AllHold a (trap_clauses n k ts) → TrapsFree k n rho gam s ts (first_label ts)
@@ -103,6 +108,7 @@ traps-hold a n rho gam k s ts p has s_in x_in apart first h o z there z_in ne sa
     let here : AllHold a (trap_pair n k x e o z) = subst (λ b. AllHold a (if b then [] else trap_pair n k x e o z)) (ne_eqb z x ne) one_z in
     trap-holds a n rho k (length ts) x e o z (gam s) (gam x) (gam z) has (p.cols s s_in).within (p.cols x x_in) (p.cols z z_in) (apart x z x_in z_in (λ (q : x ≡ z). ne (sym q))) first here same_row at
 
+-- and the other way round
 pub hold-traps : (a : ℕ → Bool) (n : ℕ) (rho gam : ℕ → ℕ) (k : Kind) (s : ℕ) (ts : List (Option ℕ)) → IsPlaced a n rho gam → HasCols k (length ts) → s < n → first_label ts < n → first_real ts < length ts
     → (length ts ≤ 6 ⊎ (keeps_half k ≡ false))
     → ((x z : ℕ) → x < n → z < n → x ≢ z → a (pair_var n x z) ≡ false → rho x ≡ rho z) → gam (first_label ts) ≡ col_of k (first_real ts) (gam s)

@@ -1,33 +1,28 @@
 use Rattle.std.proofs.Common.{◌≤◌, ◌+◌, ◌-◌, ◌*◌, ◌∙◌, sym, subst, arith, length, List}
 use Rattle.flow_graph.specs.declared.pinning.Pin.{Pin}
-use Rattle.flow_graph.specs.declared.programs.Program.{Program}
 use Rattle.flow_graph.specs.Graph.{graph_of}
-use Rattle.clause_words.proofs.PinLemmas.{few-pins}
+use Rattle.clause_words.proofs.PinLemmas.{few-pins_of}
 use Rattle.clause_words.proofs.CountLemmas.{length-class_3, few-product}
 use Rattle.clause_encode.proofs.counting.class_3_count.Goals as goal
 
--- a program has at most 512 pins
-few-of : (program : Program) → length (graph_of program).pins ≤ 512
-few-of program = let h = few-pins (graph_of program) program.valid in let n = program.valid.cells_for_all in omega arith
-
 pub overflow_cast-pins : goal.overflow_cast-pins
 overflow_cast-pins c =
-    let few : length c.as_slice.result.now ≤ 512 = subst (λ (pins : List Pin). length pins ≤ 512) (sym (c.as_slice.ensures ∙ c.pins.ensures)) (few-of c.args.program.now) in
+    let few : length c.as_slice.result.now ≤ 512 = subst (λ (pins : List Pin). length pins ≤ 512) (sym (c.as_slice.ensures ∙ c.pins.ensures)) (few-pins_of c.args.program.now) in
     omega arith
 
 pub overflow_mul-result : goal.overflow_mul-result
 overflow_mul-result c =
-    let few : length c.as_slice.result.now ≤ 512 = subst (λ (pins : List Pin). length pins ≤ 512) (sym (c.as_slice.ensures ∙ c.pins.ensures)) (few-of c.args.program.now) in
+    let few : length c.as_slice.result.now ≤ 512 = subst (λ (pins : List Pin). length pins ≤ 512) (sym (c.as_slice.ensures ∙ c.pins.ensures)) (few-pins_of c.args.program.now) in
     omega arith
 
 pub overflow_add-result : goal.overflow_add-result
 overflow_add-result c =
-    let few : length c.as_slice.result.now ≤ 512 = subst (λ (pins : List Pin). length pins ≤ 512) (sym (c.as_slice.ensures ∙ c.pins.ensures)) (few-of c.args.program.now) in
+    let few : length c.as_slice.result.now ≤ 512 = subst (λ (pins : List Pin). length pins ≤ 512) (sym (c.as_slice.ensures ∙ c.pins.ensures)) (few-pins_of c.args.program.now) in
     omega arith
 
 pub overflow_add-result-2 : goal.overflow_add-result-2
 overflow_add-result-2 c =
-    let few : length c.as_slice.result.now ≤ 512 = subst (λ (pins : List Pin). length pins ≤ 512) (sym (c.as_slice.ensures ∙ c.pins.ensures)) (few-of c.args.program.now) in
+    let few : length c.as_slice.result.now ≤ 512 = subst (λ (pins : List Pin). length pins ≤ 512) (sym (c.as_slice.ensures ∙ c.pins.ensures)) (few-pins_of c.args.program.now) in
     let labels : c.from.result ≤ 512 = omega (arith, c.from.ensures, c.len.ensures, c.args.program.now.valid.cells_for_all) in
     let product : c.from.result * (32 - c.from-free_rows.result) ≤ 16384 = few-product c.from.result (32 - c.from-free_rows.result) labels (omega arith) in
     omega arith
@@ -41,7 +36,7 @@ returns-clause-count c =
 
 pub returns-clause-few : goal.returns-clause-few
 returns-clause-few c =
-    let few : length c.as_slice.result.now ≤ 512 = subst (λ (pins : List Pin). length pins ≤ 512) (sym (c.as_slice.ensures ∙ c.pins.ensures)) (few-of c.args.program.now) in
+    let few : length c.as_slice.result.now ≤ 512 = subst (λ (pins : List Pin). length pins ≤ 512) (sym (c.as_slice.ensures ∙ c.pins.ensures)) (few-pins_of c.args.program.now) in
     let labels : c.from.result ≤ 512 = omega (arith, c.from.ensures, c.len.ensures, c.args.program.now.valid.cells_for_all) in
     let product : c.from.result * (32 - c.from-free_rows.result) ≤ 16384 = few-product c.from.result (32 - c.from-free_rows.result) labels (omega arith) in
     omega arith

@@ -1,0 +1,25 @@
+use Rattle.std.proofs.Common.{◌≡◌, ◌<◌, ◌≤◌, ◌+◌, ◌-◌, ◌*◌, ◌/◌, ◌%◌, ◌∙◌, ◌++◌, [], ◌∷◌, ap, sym, subst, refl, arith, length, ℕ, List, Option, Some, None, true, false}
+use Rattle.std.specs.Prelude.{slice_get}
+use Rattle.clause_words.specs.Number.{plus, minus, col_var}
+use Rattle.clause_words.specs.Reaching.{keeps_half}
+use Rattle.std.specs.Prelude.{if◌then◌else◌}
+use Rattle.clause_words.specs.Clauses.{col_clauses}
+use Rattle.clause_words.proofs.CountLemmas.{length-cols}
+use Rattle.clause_words.proofs.NumberedLemmas.{cols-at_half}
+use Rattle.clause_encode.proofs.PlaceLemmas.{at_lits}
+use Rattle.clause_encode.proofs.flow_places.cols_at.Goals as goal
+
+pub col_of-to-requires-clause-col : goal.col_of-to-requires-clause-col
+col_of-to-requires-clause-col c =
+    let half = sym c.keeps_half.ensures ∙ c.if-keeps_half.true in
+    let long : length (col_clauses c.args.kind c.args.s c.args.o c.args.y) ≡ 16 = length-cols c.args.kind c.args.s c.args.o c.args.y ∙ ap (λ b. if b then 16 else 1) half in
+    omega (arith, c.requires.place)
+
+pub returns-then-keeps_half : goal.returns-then-keeps_half
+returns-then-keeps_half c =
+    let half = sym c.keeps_half.ensures ∙ c.if-keeps_half.true in
+    let long : length (col_clauses c.args.kind c.args.s c.args.o c.args.y) ≡ 16 = length-cols c.args.kind c.args.s c.args.o c.args.y ∙ ap (λ b. if b then 16 else 1) half in
+    let from = c.negative.ensures ∙ ap minus c.col_var.ensures in
+    let to = c.positive.ensures ∙ ap plus (c.col_var-then-keeps_half.ensures ∙ ap (col_var c.args.y) c.col_of-to.ensures.col) in
+    at_lits c.two_lits.result (λ x. x.items) _ _ (col_clauses c.args.kind c.args.s c.args.o c.args.y) c.args.place c.two_lits.ensures (λ k. from k ∷ to k ∷ [])
+    (cols-at_half c.args.kind c.args.s c.args.o c.args.y c.args.place half (omega (arith, c.requires.place)))

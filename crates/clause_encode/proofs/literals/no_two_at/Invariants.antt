@@ -1,0 +1,7 @@
+use Rattle.std.proofs.Common.{◌≡◌, ◌+◌, length}
+use Rattle.clause_words.specs.Upto.{upto}
+use Rattle.clause_words.specs.Shape.{not_with_later}
+use Rattle.clause_encode.proofs.literals.no_two_at.Given as goal
+
+abbrev pub invariant-loop-r : goal.invariant-loop-r
+invariant-loop-r l = length (upto l.r (not_with_later l.count l.first)) + l.left ≡ l.place

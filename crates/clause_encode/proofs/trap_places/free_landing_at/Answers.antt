@@ -1,0 +1,83 @@
+use Rattle.std.proofs.Common.{◌≡◌, ◌<◌, ◌≤◌, ◌+◌, ◌-◌, ◌*◌, ◌/◌, ◌%◌, ◌∙◌, ◌++◌, [], ◌∷◌, ap, sym, subst, refl, arith, length, ℕ, List, Option, Some, None, true, false}
+use Rattle.std.specs.Prelude.{slice_get}
+use Rattle.clause_words.specs.Upto.{upto}
+use Rattle.clause_words.specs.Clauses.{trap_of, trap_pair}
+use Rattle.clause_words.proofs.CountLemmas.{length-free_landing, trap_of-other}
+use Rattle.clause_words.proofs.NumberedLemmas.{length-before_label, length-after_label, div-mod, mod-below, div-below}
+use Rattle.clause_encode.proofs.PlaceLemmas.{at_piece, at_block}
+use Rattle.clause_encode.proofs.trap_places.free_landing_at.Goals as goal
+
+pub overflow_add-skipped : goal.overflow_add-skipped
+overflow_add-skipped c =
+    let n = c.args.labels in
+    let first = c.args.first in
+    let k = c.args.kind in
+    let o = c.args.o in
+    let w = c.trap_pair_count-block.result in
+    let f = trap_of n k first.label first.outcome o in
+    let each : (z : ℕ) → length (trap_pair n k first.label first.outcome o z) ≡ w = λ (z : ℕ). c.trap_pair_count-block.ensures.count n first.label first.outcome o z in
+    let split : c.args.place / w * w + c.args.place % w ≡ c.args.place = div-mod c.args.place w in
+    let below : c.args.place % w < w = mod-below c.args.place w c.trap_pair_count-block.ensures.some in
+    let whole : length (upto n f) ≡ (n - 1) * w = length-free_landing n k first.label first.outcome o w each c.requires.first_label in
+    let skipped : c.args.place / w < n - 1 = div-below c.args.place w (n - 1) c.trap_pair_count-block.ensures.some (subst (λ (m : ℕ). c.args.place < m) whole c.requires.place) in
+    omega arith
+
+pub trap_pair_at-requires-else-skipped-first-clause-label : goal.trap_pair_at-requires-else-skipped-first-clause-label
+trap_pair_at-requires-else-skipped-first-clause-label c =
+    let n = c.args.labels in
+    let first = c.args.first in
+    let k = c.args.kind in
+    let o = c.args.o in
+    let w = c.trap_pair_count-block.result in
+    let f = trap_of n k first.label first.outcome o in
+    let each : (z : ℕ) → length (trap_pair n k first.label first.outcome o z) ≡ w = λ (z : ℕ). c.trap_pair_count-block.ensures.count n first.label first.outcome o z in
+    let split : c.args.place / w * w + c.args.place % w ≡ c.args.place = div-mod c.args.place w in
+    let below : c.args.place % w < w = mod-below c.args.place w c.trap_pair_count-block.ensures.some in
+    let whole : length (upto n f) ≡ (n - 1) * w = length-free_landing n k first.label first.outcome o w each c.requires.first_label in
+    let skipped : c.args.place / w < n - 1 = div-below c.args.place w (n - 1) c.trap_pair_count-block.ensures.some (subst (λ (m : ℕ). c.args.place < m) whole c.requires.place) in
+    omega arith
+
+pub returns-then-skipped-first : goal.returns-then-skipped-first
+returns-then-skipped-first c =
+    let n = c.args.labels in
+    let first = c.args.first in
+    let k = c.args.kind in
+    let o = c.args.o in
+    let w = c.trap_pair_count-block.result in
+    let f = trap_of n k first.label first.outcome o in
+    let each : (z : ℕ) → length (trap_pair n k first.label first.outcome o z) ≡ w = λ (z : ℕ). c.trap_pair_count-block.ensures.count n first.label first.outcome o z in
+    let split : c.args.place / w * w + c.args.place % w ≡ c.args.place = div-mod c.args.place w in
+    let below : c.args.place % w < w = mod-below c.args.place w c.trap_pair_count-block.ensures.some in
+    let whole : length (upto n f) ≡ (n - 1) * w = length-free_landing n k first.label first.outcome o w each c.requires.first_label in
+    let skipped : c.args.place / w < n - 1 = div-below c.args.place w (n - 1) c.trap_pair_count-block.ensures.some (subst (λ (m : ℕ). c.args.place < m) whole c.requires.place) in
+    let z = c.args.place / w in
+    let z_in : z < n = omega arith in
+    let ne : z ≡ first.label → ⊥ = λ (e : z ≡ first.label). omega arith in
+    let other = trap_of-other n k first.label first.outcome o z ne in
+    let long : length (f z) ≡ w = ap length other ∙ each z in
+    let front : length (upto z f) ≡ z * w = length-before_label n k first.label first.outcome o w z each (omega arith) in
+    at_block c.trap_pair_at.result (λ x. x.items) n f z c.args.place (c.args.place % w) (omega arith) z_in (omega arith)
+    (at_piece c.trap_pair_at.result (λ x. x.items) (f z) (trap_pair n k first.label first.outcome o z) (c.args.place % w) (c.args.place % w) c.trap_pair_at.ensures (ap (λ l. slice_get l (c.args.place % w)) other))
+
+pub returns-else-skipped-first : goal.returns-else-skipped-first
+returns-else-skipped-first c =
+    let n = c.args.labels in
+    let first = c.args.first in
+    let k = c.args.kind in
+    let o = c.args.o in
+    let w = c.trap_pair_count-block.result in
+    let f = trap_of n k first.label first.outcome o in
+    let each : (z : ℕ) → length (trap_pair n k first.label first.outcome o z) ≡ w = λ (z : ℕ). c.trap_pair_count-block.ensures.count n first.label first.outcome o z in
+    let split : c.args.place / w * w + c.args.place % w ≡ c.args.place = div-mod c.args.place w in
+    let below : c.args.place % w < w = mod-below c.args.place w c.trap_pair_count-block.ensures.some in
+    let whole : length (upto n f) ≡ (n - 1) * w = length-free_landing n k first.label first.outcome o w each c.requires.first_label in
+    let skipped : c.args.place / w < n - 1 = div-below c.args.place w (n - 1) c.trap_pair_count-block.ensures.some (subst (λ (m : ℕ). c.args.place < m) whole c.requires.place) in
+    let j = c.args.place / w in
+    let z = j + 1 in
+    let z_in : z < n = omega arith in
+    let ne : z ≡ first.label → ⊥ = λ (e : z ≡ first.label). omega arith in
+    let other = trap_of-other n k first.label first.outcome o z ne in
+    let long : length (f z) ≡ w = ap length other ∙ each z in
+    let front : length (upto z f) ≡ j * w = length-after_label n k first.label first.outcome o w j each (omega arith) in
+    at_block c.trap_pair_at-else-skipped-first.result (λ x. x.items) n f z c.args.place (c.args.place % w) (omega arith) z_in (omega arith)
+    (at_piece c.trap_pair_at-else-skipped-first.result (λ x. x.items) (f z) (trap_pair n k first.label first.outcome o z) (c.args.place % w) (c.args.place % w) c.trap_pair_at-else-skipped-first.ensures (ap (λ l. slice_get l (c.args.place % w)) other))
