@@ -1,6 +1,6 @@
 -- How many clauses there are in the later classes.
-use Rattle.std.proofs.Common.{◌≡◌, ◌≢◌, ℕ, ℤ, zero, suc, ◌+◌, ◌-◌, ◌*◌, ◌<◌, ◌≤◌, ◌⊎◌, inl, inr, Bool, true, false, List, [], ◌∷◌, ◌++◌, length, Option, Some, None, refl, sym, ap, subst, ◌∙◌, arith}
-use Rattle.std.specs.Prelude.{slice_get, ◌==◌, if◌then◌else◌}
+use Rattle.std.proofs.Common.{◌≡◌, ◌≢◌, ℕ, ℤ, zero, suc, ◌+◌, ◌-◌, ◌*◌, ◌<◌, ◌≤◌, inl, inr, Bool, true, false, List, [], ◌∷◌, ◌++◌, length, Option, Some, None, refl, sym, ap, ◌∙◌, arith}
+use Rattle.std.specs.Prelude.{slice_get, if◌then◌else◌}
 use Rattle.std.specs.Option.{option_map_or}
 use Rattle.std.proofs.lemmas.List.{length-append}
 use Rattle.std.proofs.lemmas.Nat.{mul-le}
@@ -9,15 +9,13 @@ use Rattle.std.proofs.lemmas.Option.{slice_get-get_or}
 use Rattle.mcu_jumps.specs.declared.codes.Kind.{Kind}
 use Rattle.mcu_jumps.specs.declared.codes.Kind.TheVariants as kind
 use Rattle.mcu_jumps.specs.Landing.{outcomes_of}
-use Rattle.flow_graph.specs.declared.pinning.Pin.{Pin}
 use Rattle.flow_graph.specs.Graph.{Graph}
-use Rattle.clause_words.specs.Upto.{upto, between, at_place, each_of}
+use Rattle.clause_words.specs.Upto.{upto, at_place, each_of}
 use Rattle.clause_words.specs.Number.{plus, minus, row_var, col_var, goto_var, pair_var, pairs_below}
 use Rattle.clause_words.specs.Shape.{one, same, same_where}
-use Rattle.clause_words.specs.FirstLabel.{first_real, first_label}
 use Rattle.clause_words.specs.Reaching.{col_of, keeps_half}
-use Rattle.clause_words.specs.Clauses.{at_clauses, bound_clauses, pin_clauses, goto_clauses, reach_lit, reach_clauses, col_clause, col_clauses, outcome_clauses, target_clauses, test_clauses, flow_clauses, trap_pair, trap_of, class_1, class_2, class_3, class_4, class_5, clauses_of}
-use Rattle.clause_words.proofs.UptoLemmas.{upto-none, upto-suc, length-upto, length-singles}
+use Rattle.clause_words.specs.Clauses.{at_clauses, bound_clauses, pin_clauses, goto_clauses, reach_lit, reach_clauses, col_clause, col_clauses, outcome_clauses, target_clauses, test_clauses, trap_pair, trap_of, class_1, class_2, class_3, class_4, class_5, clauses_of}
+use Rattle.clause_words.proofs.UptoLemmas.{upto-suc, length-upto, length-singles}
 use Rattle.clause_words.proofs.LengthLemmas.{length-more, length-class_1, length-class_2}
 
 -- the clauses of one element more

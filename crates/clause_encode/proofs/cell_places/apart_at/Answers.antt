@@ -1,4 +1,4 @@
-use Rattle.std.proofs.Common.{◌≡◌, ◌+◌, ◌-◌, ◌<◌, ◌≤◌, ◌∙◌, [], ◌∷◌, ap, sym, arith}
+use Rattle.std.proofs.Common.{◌≡◌, ◌+◌, ◌-◌, ◌∙◌, [], ◌∷◌, ap, arith}
 use Rattle.clause_words.specs.Number.{plus, minus, row_var, col_var, diff_var}
 use Rattle.clause_words.specs.Clauses.{apart_clauses}
 use Rattle.clause_words.proofs.LengthLemmas.{apart-at_row, apart-at_col}

@@ -1,6 +1,5 @@
-use Rattle.std.proofs.Common.{◌≡◌, ◌+◌, ◌-◌, ◌<◌, ◌≤◌, ◌∙◌, [], ◌∷◌, ap, sym, arith}
+use Rattle.std.proofs.Common.{◌≡◌, ◌-◌, ◌∙◌, ap, sym, arith}
 use Rattle.std.specs.Prelude.{slice_get}
-use Rattle.clause_words.specs.Number.{row_var, col_var}
 use Rattle.clause_words.specs.Shape.{any_of, no_two}
 use Rattle.clause_words.specs.Clauses.{cell_clauses}
 use Rattle.clause_words.proofs.LengthLemmas.{cell-at_rows, cell-at_cols, cell-at_row_pair, cell-at_col_pair}

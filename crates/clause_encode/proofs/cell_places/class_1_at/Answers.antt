@@ -1,4 +1,4 @@
-use Rattle.std.proofs.Common.{◌≡◌, ◌+◌, ◌*◌, ◌/◌, ◌%◌, ◌<◌, arith}
+use Rattle.std.proofs.Common.{◌/◌, ◌%◌, arith}
 use Rattle.clause_words.specs.Clauses.{class_1, cell_clauses}
 use Rattle.clause_words.proofs.LengthLemmas.{class_1-at}
 use Rattle.clause_encode.proofs.PlaceLemmas.{at_piece}

@@ -1,7 +1,5 @@
-use Rattle.std.proofs.Common.{◌≡◌, ◌<◌, ◌≤◌, ◌+◌, ◌-◌, ◌*◌, ◌/◌, ◌%◌, ◌∙◌, ◌++◌, [], ◌∷◌, ap, sym, subst, refl, arith, length, ℕ, List, Option, Some, None, true, false}
-use Rattle.std.specs.Prelude.{slice_get}
+use Rattle.std.proofs.Common.{◌≡◌, ◌∙◌, [], ◌∷◌, ap, sym, arith, length}
 use Rattle.clause_words.specs.Number.{plus, minus, col_var}
-use Rattle.clause_words.specs.Reaching.{keeps_half}
 use Rattle.std.specs.Prelude.{if◌then◌else◌}
 use Rattle.clause_words.specs.Clauses.{col_clauses}
 use Rattle.clause_words.proofs.CountLemmas.{length-cols}

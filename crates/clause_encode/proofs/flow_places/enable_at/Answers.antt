@@ -1,6 +1,4 @@
-use Rattle.std.proofs.Common.{◌≡◌, ◌<◌, ◌≤◌, ◌+◌, ◌-◌, ◌*◌, ◌/◌, ◌%◌, ◌∙◌, ◌++◌, [], ◌∷◌, ap, sym, subst, refl, arith, length, ℕ, List, Option, Some, None, true, false}
-use Rattle.std.specs.Prelude.{slice_get}
-use Rattle.mcu_jumps.specs.declared.codes.Kind.{Kind}
+use Rattle.std.proofs.Common.{◌≡◌, ◌+◌, ◌-◌, ◌∙◌, [], ◌∷◌, ap, refl, arith, length}
 use Rattle.mcu_jumps.specs.declared.codes.Kind.TheVariants as kind
 use Rattle.clause_words.specs.Number.{plus, minus, col_var}
 use Rattle.clause_words.specs.Shape.{same}

@@ -1,4 +1,4 @@
-use Rattle.std.proofs.Common.{◌≡◌, ◌<◌, ◌≤◌, ◌+◌, ◌-◌, ◌*◌, ◌/◌, ◌%◌, ◌∙◌, ◌++◌, [], ◌∷◌, ap, sym, subst, refl, arith, length, ℕ, List, Option, Some, None, true, false}
+use Rattle.std.proofs.Common.{◌≡◌, ◌<◌, ◌∙◌, ◌++◌, ap, sym, subst, arith, length, ℕ, Some}
 use Rattle.std.specs.Prelude.{slice_get}
 use Rattle.mcu_jumps.specs.declared.codes.Kind.{Kind}
 use Rattle.mcu_jumps.specs.declared.codes.Kind.TheVariants as kind

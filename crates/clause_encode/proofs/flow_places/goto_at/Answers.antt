@@ -1,6 +1,6 @@
-use Rattle.std.proofs.Common.{◌≡◌, ◌<◌, ◌≤◌, ◌+◌, ◌-◌, ◌*◌, ◌/◌, ◌%◌, ◌∙◌, ◌++◌, [], ◌∷◌, ap, sym, subst, refl, arith, length, ℕ, List, Option, Some, None, true, false}
+use Rattle.std.proofs.Common.{◌≡◌, ◌≤◌, ◌+◌, ◌-◌, ◌∙◌, [], ◌∷◌, ap, arith, ℕ}
 use Rattle.std.specs.Prelude.{slice_get}
-use Rattle.clause_words.specs.Number.{plus, minus, row_var, col_var, goto_var}
+use Rattle.clause_words.specs.Number.{plus, minus}
 use Rattle.clause_words.specs.Clauses.{goto_clauses}
 use Rattle.clause_words.proofs.NumberedLemmas.{goto-at_col, goto-at_zero, goto-at_low, goto-at_row}
 use Rattle.clause_encode.proofs.PlaceLemmas.{at_lits}

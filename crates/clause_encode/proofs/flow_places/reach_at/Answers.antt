@@ -1,9 +1,7 @@
-use Rattle.std.proofs.Common.{◌≡◌, ◌+◌, ◌++◌, ◌∷◌, [], true, false, ap, sym, ◌∙◌, arith, ℕ, List, Global, ℤ}
+use Rattle.std.proofs.Common.{◌+◌, ap, sym, ◌∙◌, arith}
 use Rattle.std.proofs.lemmas.Grind.{common_steps}
 use Rattle.clause_words.specs.Number.{minus, plus, row_var}
-use Rattle.clause_words.specs.Clauses.{reach_lit}
-use Rattle.clause_words.specs.Reaching.{reaches}
-use Rattle.clause_words.proofs.UptoLemmas.{upto-none, upto-more}
+use Rattle.clause_words.proofs.UptoLemmas.{upto-none}
 use Rattle.clause_encode.proofs.ReachLemmas.{reach-yes, reach-no}
 use Rattle.clause_encode.proofs.flow_places.reach_at.Goals.{then-reaches+in_ok-push-2, else-reaches}
 use Rattle.clause_encode.proofs.flow_places.reach_at.Goals as goal

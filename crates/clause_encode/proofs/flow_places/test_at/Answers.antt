@@ -1,4 +1,4 @@
-use Rattle.std.proofs.Common.{◌≡◌, ◌<◌, ◌≤◌, ◌+◌, ◌-◌, ◌*◌, ◌/◌, ◌%◌, ◌∙◌, ◌++◌, [], ◌∷◌, ap, sym, subst, refl, arith, length, ℕ, List, Option, Some, None, true, false}
+use Rattle.std.proofs.Common.{◌≡◌, ◌<◌, ◌+◌, ◌-◌, ap, sym, subst, refl, arith, length, ℕ}
 use Rattle.std.specs.Prelude.{slice_get}
 use Rattle.clause_words.specs.Upto.{each_of}
 use Rattle.clause_words.specs.FirstLabel.{first_real, first_label}

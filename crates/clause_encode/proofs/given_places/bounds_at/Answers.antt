@@ -1,6 +1,6 @@
-use Rattle.std.proofs.Common.{◌≡◌, ◌<◌, ◌≤◌, ◌+◌, ◌-◌, ◌*◌, ◌/◌, ◌%◌, ◌∙◌, ◌++◌, [], ◌∷◌, ap, sym, subst, refl, arith, length, ℕ, List, Option, Some, None, true, false}
+use Rattle.std.proofs.Common.{◌≡◌, ◌+◌, ◌-◌, ◌*◌, ◌∙◌, [], ◌∷◌, ap, arith, length}
 use Rattle.clause_words.specs.Upto.{upto}
-use Rattle.clause_words.specs.Number.{minus, row_var}
+use Rattle.clause_words.specs.Number.{minus}
 use Rattle.clause_words.specs.Clauses.{bound_clauses}
 use Rattle.clause_words.proofs.UptoLemmas.{upto-none, length-upto}
 use Rattle.clause_words.proofs.LengthLemmas.{length-more}

@@ -1,4 +1,4 @@
-use Rattle.std.proofs.Common.{◌≡◌, ◌+◌, ◌-◌, ◌<◌, ◌≤◌, ◌∙◌, [], ◌∷◌, length, Some, ap, sym, arith}
+use Rattle.std.proofs.Common.{◌≡◌, ◌+◌, ◌-◌, ◌∙◌, [], ◌∷◌, length, ap, arith}
 use Rattle.clause_words.specs.Upto.{upto}
 use Rattle.clause_words.specs.Number.{pairs_below}
 use Rattle.clause_words.specs.Shape.{no_two, not_with_later}

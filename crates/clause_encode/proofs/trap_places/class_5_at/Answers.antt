@@ -1,9 +1,7 @@
-use Rattle.std.proofs.Common.{◌≡◌, ◌<◌, ◌≤◌, ◌+◌, ◌-◌, ◌*◌, ◌/◌, ◌%◌, ◌∙◌, ◌++◌, [], ◌∷◌, ap, sym, subst, refl, arith, length, ℕ, List, Option, Some, None, true, false}
+use Rattle.std.proofs.Common.{◌≡◌, ◌+◌, ◌∙◌, ap, sym, refl, arith, length}
 use Rattle.std.specs.Prelude.{slice_get}
-use Rattle.clause_words.specs.FirstLabel.{first_real, first_label}
-use Rattle.std.proofs.lemmas.Option.{slice_get_within}
-use Rattle.clause_words.specs.Upto.{upto, at_place, each_of}
-use Rattle.clause_words.specs.Clauses.{trap_outcome, trap_clauses, instr_traps}
+use Rattle.clause_words.specs.Upto.{upto, at_place}
+use Rattle.clause_words.specs.Clauses.{trap_clauses, instr_traps}
 use Rattle.clause_words.proofs.UptoLemmas.{upto-none}
 use Rattle.clause_words.proofs.CountLemmas.{length-each_more}
 use Rattle.clause_encode.proofs.PlaceLemmas.{at_piece, at_element}

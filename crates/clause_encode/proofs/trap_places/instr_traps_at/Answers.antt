@@ -1,7 +1,6 @@
-use Rattle.std.proofs.Common.{◌≡◌, ◌<◌, ◌≤◌, ◌+◌, ◌-◌, ◌*◌, ◌/◌, ◌%◌, ◌∙◌, ◌++◌, [], ◌∷◌, ap, sym, subst, refl, arith, length, ℕ, List, Option, Some, None, true, false}
+use Rattle.std.proofs.Common.{◌≡◌, ◌<◌, ◌∙◌, ap, sym, subst, length, ℕ}
 use Rattle.std.specs.Prelude.{slice_get}
 use Rattle.clause_words.specs.FirstLabel.{first_real, first_label}
-use Rattle.std.proofs.lemmas.Option.{slice_get_within}
 use Rattle.clause_words.specs.Upto.{each_of}
 use Rattle.clause_words.specs.Clauses.{trap_outcome, trap_clauses}
 use Rattle.clause_encode.proofs.PlaceLemmas.{at_piece}
