@@ -29,6 +29,8 @@ pub use encoding::{encode, var_count};
 pub use numbered::clause_at;
 
 #[cfg(test)]
+mod model_tables;
+#[cfg(test)]
 mod program_tables;
 #[cfg(test)]
 mod worked_examples;

@@ -1,7 +1,9 @@
 //! Worked examples: the counts and clauses of small programs, from the rules by hand.
+use crate::model_tables::placed;
 use crate::program_tables::{Line, program};
 use crate::{clause_at, clause_count, encode, var_count};
-use mcu_jumps::Kind;
+use clause_words::Truths;
+use mcu_jumps::{Cell, Kind};
 use std::test::Fail;
 
 // A test whose two outcomes are one label: no placement is legal, since that label has two columns.
@@ -54,5 +56,19 @@ fn each_clause_by_its_number(rt: HostRuntime) -> Result<(), Fail> {
         let clause = clause_at(alloc, &program, number)?;
         assert_eq!(rt; clause.as_slice(), list.get(number));
     }
+    Ok(())
+}
+
+// One instruction that goes to itself: it stands at row 0, column 0, and all three ways lead there.
+#[test]
+fn one_instruction_is_placed(rt: HostRuntime) -> Result<(), Fail> {
+    let alloc = rt.alloc();
+    let program = program(alloc, 32, &[], &[("A", Kind::Goto, &[Some(0)])])?;
+    let mut values = vec![in alloc; false; 51]?;
+    for place in [0usize, 32, 48, 49, 50] {
+        values[place] = true;
+    }
+    let placement = placed(alloc, &program, &Truths::of(values))?;
+    assert_eq!(rt; placement.as_slice(), [Cell::at(0, 0)].as_slice());
     Ok(())
 }
