@@ -1,5 +1,5 @@
 -- The K bits of a microword on the K bus. How they share it is this project's own choice.
-use Rattle.std.specs.Prelude.{◌≡◌, ℕ, zero, suc, ◌+◌, ◌-◌, ◌*◌, ◌/◌, ◌%◌, ◌^◌, ◌<◌}
+use Rattle.std.specs.Prelude.{◌≡◌, ℕ, zero, suc, ◌+◌, ◌-◌, ◌*◌, ◌/◌, ◌%◌, ◌^◌, ◌<◌, ◌≤◌, Bool, ◌==◌}
 use Rattle.field_decl.specs.declared.decl.Decl.{Decl}
 
 -- how many bus bits a K bit drives
@@ -24,3 +24,14 @@ spread_of decl kbits = spread_bits (share_of decl) decl.kbus kbits
 pub record IsGathered (decl : Decl) (mask kbits : ℕ) : Type 0 where
   pub few : kbits < 2 ^ decl.kbus
   pub spread : spread_of decl kbits ≡ mask
+
+-- so many slices, whose bits so many K bits share
+pub record IsShared (slices kbus : ℕ) : Type 0 where
+  pub some_slices : 1 ≤ slices
+  pub most_slices : slices ≤ 16
+  pub some_kbus : 0 < kbus
+  pub shared : 2 * slices % kbus ≡ 0
+
+-- some K bits give this mask: those of its lowest bits do
+abbrev pub has_kbits : ℕ → ℕ → ℕ → Bool
+has_kbits slices kbus mask = spread_bits (2 * slices / kbus) kbus (gathered_bits (2 * slices / kbus) kbus mask) == mask

@@ -1,10 +1,12 @@
 //! What the directives of the earlier lines declare, in tables.
 
-ghost use Rattle.std.specs.Prelude.{◌≡◌, ◌≤◌, [], unwrap_or, option_and_then};
+ghost use Rattle.std.specs.Prelude.{◌≡◌, ℕ, ◌≤◌, [], Some, true, length, unwrap_or, option_and_then};
+ghost use Rattle.std.specs.List.{list_all};
 ghost use Rattle.field_decl.specs.Decls.{declaration_of};
 ghost use Rattle.field_decl.specs.Earlier.{declared_by};
-ghost use Rattle.field_decl.specs.Fields.{word_bits, write_place};
+ghost use Rattle.field_decl.specs.Fields.{word_bits, write_place, is_sized, are_distinct};
 ghost use Rattle.field_decl.specs.Judging.{judged};
+ghost use Rattle.field_decl.specs.KBits.{IsShared};
 ghost use Rattle.field_decl.specs.Layout.{completed};
 ghost use Rattle.field_decl.specs.Results.{Gives, GivesKind};
 ghost use Rattle.field_decl.specs.declared.directive.Directive.TheVariants as directives;
@@ -147,6 +149,31 @@ impl DeclState {
             Directive::Prom(words, bits) => self.take_prom(words, bits),
             Directive::Write(name) => self.take_write(name),
         }
+    }
+
+    /// The slices, where they are given.
+    pub fn slices(&self) -> Option<u8>
+        ensures { result ≡ self.now.slices }
+    {
+        self.slices
+    }
+
+    /// The K bits of the microword so far.
+    pub fn kbus(&self) -> u8
+        ensures kbus { result ≡ unwrap_or self.now.kbus 1 }
+        ensures shared { (slices : ℕ) → self.now.slices ≡ Some slices → IsShared slices result }
+    {
+        self.kbus.unwrap_or(1)
+    }
+
+    /// The fields so far.
+    pub fn fields(&self) -> &[Field]
+        ensures fields { result.now ≡ self.now.fields }
+        ensures few { length result.now ≤ 77 }
+        ensures sized { list_all is_sized result.now ≡ true }
+        ensures distinct { are_distinct result.now ≡ true }
+    {
+        self.fields.as_slice()
     }
 
     /// The place of the write field.

@@ -1,7 +1,7 @@
 //! The K bits of a microword on the K bus.
 
-ghost use Rattle.std.specs.Prelude.{◌≡◌, ℕ, ◌+◌, ◌*◌, ◌/◌, ◌%◌, ◌^◌, ◌<◌, ◌≤◌, Some, IfSome};
-ghost use Rattle.field_decl.specs.KBits.{spread_bits, gathered_bits, share_of, spread_of, IsGathered};
+ghost use Rattle.std.specs.Prelude.{◌≡◌, ℕ, ◌+◌, ◌*◌, ◌/◌, ◌%◌, ◌^◌, ◌<◌, ◌≤◌, Some, IfSome, IsTrue};
+ghost use Rattle.field_decl.specs.KBits.{spread_bits, gathered_bits, share_of, spread_of, IsGathered, IsShared, has_kbits};
 
 use crate::decl::Decl;
 
@@ -69,3 +69,20 @@ pub fn gather(decl: &Decl, mask: u128) -> Option<u32>
         None
     }
 }
+
+/// Whether some K bits put this mask on the bus of so many slices, which `kbus` K bits share.
+pub fn has_kbits(slices: u8, kbus: u8, mask: u128) -> bool
+    requires { IsShared slices kbus }
+    ensures kbits { result ≡ has_kbits slices kbus mask }
+    ensures below { IsTrue result → mask < 2 ^ (2 * slices) }
+{
+    let share = 2 * slices as u32 / kbus as u32;
+    let kbits = gathered_bits(share, kbus as u32, mask);
+    spread_bits(share, kbus as u32, kbits) as u128 == mask
+}
+
+/// The masks that have K bits are just those that some K bits give.
+pub fn kbits_give_masks()
+    ensures given { (slices kbus mask kbits : ℕ) → IsShared slices kbus → kbits < 2 ^ kbus → spread_bits (2 * slices / kbus) kbus kbits ≡ mask → IsTrue (has_kbits slices kbus mask) }
+    ensures giving { (slices kbus mask : ℕ) → IsTrue (has_kbits slices kbus mask) → (kbits : ℕ) × (kbits < 2 ^ kbus) × (spread_bits (2 * slices / kbus) kbus kbits ≡ mask) }
+{}

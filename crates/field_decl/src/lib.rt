@@ -25,7 +25,7 @@ pub use directive::{Directive, directive_form};
 pub use fault::{AsmKind, DeclFault, LineFault};
 pub use field::{Field, Fields};
 pub use field_values::FieldValues;
-pub use kbits::{gather, spread};
+pub use kbits::{gather, has_kbits, kbits_give_masks, spread};
 pub use layout::read_decl;
 pub use layout_text::print_decl;
 pub use microword::{prom_count, word_width};

@@ -3,15 +3,26 @@ ghost use Rattle.std.specs.Prelude.{◌≡◌, Some, is_some, position, length};
 ghost use Rattle.mcu_jumps.specs.Landing.{outcomes_of};
 ghost use Rattle.flow_graph.specs.Targets.{HasLabel};
 
-use crate::{Name, Targets};
+use crate::Targets;
+use cpe_slice::Fn7;
+use field_decl::{FieldValues, Name};
+use mcu_chip::FlagCtl;
 use mcu_jumps::Kind;
 use std::marker::Model;
 
-/// An instruction: its name, the line of the source that it stands in, and its flow statement.
+/// An instruction: its name, the line of the source that it stands in, its microword but for the
+/// jump, and its flow statement.
 #[derive(Drop)]
 pub struct Instr {
     pub name: Name,
     pub line: u32,
+    /// The function code of the slices.
+    pub func: Fn7,
+    /// What the K bits put on the K bus, a bit for each bit of the slices.
+    pub mask: u32,
+    pub ctl: FlagCtl,
+    /// The values of the user fields, in the fields' order.
+    pub values: FieldValues,
     pub kind: Kind,
     pub targets: Targets,
 }

@@ -1,34 +1,49 @@
-//! A program: instructions, pins, the row bound and the start, which fit together.
+//! A program: declaration, instructions, pins, the row bound and the start, which fit together.
 ghost use Rattle.std.specs.Prelude.{◌≡◌, ◌<◌, length, slice_get, Some, IfSome, IfNone};
+ghost use Rattle.field_decl.specs.Decls.{declaration_of};
 ghost use Rattle.flow_graph.specs.Valid.{IsProgram};
+ghost use Rattle.flow_graph.specs.Microwords.{AreMicrowords};
 ghost use Rattle.flow_graph.specs.Labels.{HasName, HasNoName};
 
 use crate::{Instr, Instrs, Pins};
+use field_decl::Decl;
 
 /// A program whose parts fit together. `rows` is the row bound, 1 to 32: a legal placement keeps all
 /// rows below it. `start` is the label where the flow begins.
 #[derive(Drop)]
 pub struct Program {
+    decl: Decl,
     rows: u8,
     start: u16,
     pins: Pins,
     instrs: Instrs,
     pub ghost valid: { IsProgram rows start pins instrs },
+    pub ghost fits: { AreMicrowords (declaration_of decl) instrs },
 }
 
 impl Program {
     ghost use Rattle.flow_graph.specs.Graph.{graph_of};
 
-    pub fn new(rows: u8, start: u16, pins: Pins, instrs: Instrs) -> Program
-        requires { IsProgram rows start pins instrs }
-        ensures { graph_of result ≡ record { rows = rows; start = start; pins = pins; instrs = instrs } }
+    /// The program of these parts.
+    pub fn new(decl: Decl, rows: u8, start: u16, pins: Pins, instrs: Instrs) -> Program
+        requires valid { IsProgram rows start pins instrs }
+        requires fits { AreMicrowords (declaration_of decl) instrs }
+        ensures { graph_of result ≡ record { decl = declaration_of decl; rows = rows; start = start; pins = pins; instrs = instrs } }
     {
         Program {
+            decl,
             rows,
             start,
             pins,
             instrs,
         }
+    }
+
+    /// The chips and the fields of the microword.
+    pub fn decl(&self) -> &Decl
+        ensures { declaration_of result.now ≡ (graph_of self.now).decl }
+    {
+        &self.decl
     }
 
     /// The row bound.

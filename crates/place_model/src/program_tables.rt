@@ -1,12 +1,17 @@
 //! Programs for tests, made from tables and checked to fit together.
 ghost use Rattle.std.specs.Prelude.{ℕ, ◌≡◌, ◌<◌, ◌≤◌, ◌==◌, IsTrue, Some, length, position, slice_get};
 ghost use Rattle.std.specs.Str.{bytes_eq};
+ghost use Rattle.field_decl.specs.Decls.{declaration_of};
+ghost use Rattle.flow_graph.specs.Microwords.{IsMicroword, AreMicrowords};
 ghost use Rattle.flow_graph.specs.Targets.{AreTargets};
 ghost use Rattle.flow_graph.specs.Valid.{IsInstr, IsProgram};
 ghost use Rattle.flow_graph.specs.declared.instructions.Instr.{Instr};
 ghost use Rattle.flow_graph.specs.declared.pinning.Pin.{Pin};
 
-use flow_graph::{Instr, Instrs, Name, Pin, Pins, Program, Targets};
+use cpe_slice::Fn7;
+use field_decl::{Decl, FieldValues, Name, Word, has_kbits, line_words, read_decl};
+use flow_graph::{Instr, Instrs, Pin, Pins, Program, Targets};
+use mcu_chip::FlagCtl;
 use mcu_jumps::{Cell, Kind, outcomes};
 use std::alloc::Global;
 use std::test::Fail;
@@ -129,9 +134,28 @@ fn is_program(rows: u8, start: u16, pins: &[Pin], instrs: &[Instr]) -> bool
     pinned_once(pins)
 }
 
-/// The program of these lines and pins that starts at the first line. The first line of the source
-/// that holds an instruction is line 10.
-pub fn program(alloc: Global, rows: u8, pins: &[PinLine], lines: &[Line]) -> Result<Program, Fail> {
+// Whether this instruction has no mask, in a declaration without fields.
+fn is_microword(decl: &Decl, instr: &Instr) -> bool
+    ensures { IsTrue result → IsMicroword (declaration_of decl.now) instr.now }
+{
+    instr.mask == 0
+        && has_kbits(decl.slices, decl.kbus, instr.mask as u128)
+        && decl.fields.as_slice().is_empty()
+        && instr.values.as_slice().is_empty()
+}
+
+fn are_microwords(decl: &Decl, instrs: &[Instr]) -> bool
+    ensures { IsTrue result → AreMicrowords (declaration_of decl.now) instrs.now }
+{
+    for label in 0..instrs.len() {
+        if !is_microword(decl, &instrs[label]) {
+            return false;
+        }
+    }
+    true
+}
+
+fn pins_of(alloc: Global, pins: &[PinLine]) -> Result<Vec<Pin>, Fail> {
     let mut all_pins = Vec::new(alloc);
     for (label, row, col) in pins {
         let cell = Cell::new(*row, *col).ok_or("a cell")?;
@@ -140,19 +164,50 @@ pub fn program(alloc: Global, rows: u8, pins: &[PinLine], lines: &[Line]) -> Res
             cell,
         })?;
     }
+    Ok(all_pins)
+}
+
+fn name_of(alloc: Global, text: &'static str) -> Result<Name, Fail> {
+    if text.len() > 32 {
+        return Err(Fail::from("a short name"));
+    }
+    let words = line_words(alloc, text.as_bytes()).ok().ok_or("words")?;
+    match words.as_slice() {
+        [Word::Name(name)] => Ok(*name),
+        _ => Err(Fail::from("a name")),
+    }
+}
+
+// NOP R0 with this flow statement, in this line.
+fn nop(alloc: Global, line: u32, (name, kind, targets): &Line) -> Result<Instr, Fail> {
+    Ok(Instr {
+        name: name_of(alloc, name)?,
+        line,
+        func: Fn7::new(0x60).ok_or("a function code")?,
+        mask: 0,
+        ctl: FlagCtl::decode(3).ok_or("flag functions")?,
+        values: FieldValues::new(),
+        kind: *kind,
+        targets: Targets::of(targets.to_vec(alloc)?),
+    })
+}
+
+/// The program of these lines and pins that starts at the first line, on one slice. Each line is a NOP R0.
+/// The first line of the source that holds an instruction is line 10.
+pub fn program(alloc: Global, rows: u8, pins: &[PinLine], lines: &[Line]) -> Result<Program, Fail> {
+    let decl = read_decl(alloc, b"slices 1").ok().ok_or("a declaration")?;
+    let all_pins = pins_of(alloc, pins)?;
     let mut instrs = Vec::new(alloc);
     let mut line = 10u32;
-    for (name, kind, targets) in lines {
-        instrs.push(Instr {
-            name: Name::of(name.as_bytes().to_vec(alloc)?),
-            line,
-            kind: *kind,
-            targets: Targets::of(targets.to_vec(alloc)?),
-        })?;
+    for row in lines {
+        instrs.push(nop(alloc, line, row)?)?;
         line = line.saturating_add(1);
     }
     if !is_program(rows, 0, all_pins.as_slice(), instrs.as_slice()) {
         return Err(Fail::from("a program"));
     }
-    Ok(Program::new(rows, 0, Pins::of(all_pins), Instrs::of(instrs)))
+    if !are_microwords(&decl, instrs.as_slice()) {
+        return Err(Fail::from("microwords"));
+    }
+    Ok(Program::new(decl, rows, 0, Pins::of(all_pins), Instrs::of(instrs)))
 }

@@ -1,0 +1,70 @@
+-- What accepted lines keep.
+use Rattle.std.proofs.Common.{◌≡◌, ℕ, ◌<◌, ◌≤◌, true, false, List, [], ◌∷◌, ◌++◌, length, Option, Some, refl, sym, subst, ◌∙◌, arith}
+use Rattle.std.specs.Prelude.{All}
+use Rattle.std.proofs.lemmas.List.{length-append}
+use Rattle.std.proofs.lemmas.List.Elements.{All-nil, All-push}
+use Rattle.field_decl.specs.Earlier.{Declared}
+use Rattle.micro_asm.specs.declared.lines.StartLine.{StartLine}
+use Rattle.micro_asm.specs.declared.lines.PinLine.{PinLine}
+use Rattle.micro_asm.specs.declared.lines.InstrLine.{InstrLine}
+use Rattle.micro_asm.specs.Earlier.{Facts, facts_of, IsSound, IsInstrLine, declaration_so_far, has_label, is_pinned, labels_of, pinned_labels, are_apart}
+use Rattle.micro_asm.proofs.LabelLemmas.{label_among, labels_push, pinned_label, pinned_push, apart_push}
+
+-- nothing is said
+pub sound_none : IsSound (facts_of [])
+sound_none = record { some_row = omega arith; most_rows = omega arith; few = omega arith; labels_apart = refl; pins_apart = refl; instrs = All-nil _ }
+
+no_instrs : (instrs : List InstrLine) → length instrs ≡ 0 → instrs ≡ []
+no_instrs [] none = refl
+no_instrs (instr ∷ instrs) none = absurd (omega arith)
+
+-- before the first instruction the declaration may change
+pub sound_declared : (facts : Facts) (declared : Declared) → IsSound facts → length facts.instrs ≡ 0 → IsSound (record facts { declared = declared })
+sound_declared facts declared h none = record {
+  some_row = h.some_row;
+  most_rows = h.most_rows;
+  few = h.few;
+  labels_apart = h.labels_apart;
+  pins_apart = h.pins_apart;
+  instrs = subst (All (IsInstrLine (declaration_so_far declared))) (sym (no_instrs facts.instrs none)) (All-nil _);
+}
+
+pub sound_rows : (facts : Facts) (rows : ℕ) → IsSound facts → 1 ≤ rows → rows ≤ 32 → IsSound (record facts { rows = Some rows })
+sound_rows facts rows h least most = record {
+  some_row = least;
+  most_rows = most;
+  few = h.few;
+  labels_apart = h.labels_apart;
+  pins_apart = h.pins_apart;
+  instrs = h.instrs;
+}
+
+pub sound_start : (facts : Facts) (start : Option StartLine) → IsSound facts → IsSound (record facts { start = start })
+sound_start facts start h = record {
+  some_row = h.some_row;
+  most_rows = h.most_rows;
+  few = h.few;
+  labels_apart = h.labels_apart;
+  pins_apart = h.pins_apart;
+  instrs = h.instrs;
+}
+
+pub sound_pin : (facts : Facts) (pin : PinLine) → IsSound facts → is_pinned facts.pins pin.label ≡ false → IsSound (record facts { pins = facts.pins ++ pin ∷ [] })
+sound_pin facts pin h new = record {
+  some_row = h.some_row;
+  most_rows = h.most_rows;
+  few = h.few;
+  labels_apart = h.labels_apart;
+  pins_apart = subst (λ (names : List (List ℕ)). are_apart names ≡ true) (sym (pinned_push facts.pins pin)) (apart_push (pinned_labels facts.pins) pin.label h.pins_apart (pinned_label pin.label facts.pins ∙ new));
+  instrs = h.instrs;
+}
+
+pub sound_instr : (facts : Facts) (instr : InstrLine) → IsSound facts → has_label facts.instrs instr.label ≡ false → length facts.instrs < 128 → IsInstrLine (declaration_so_far facts.declared) instr → IsSound (record facts { instrs = facts.instrs ++ instr ∷ [] })
+sound_instr facts instr h new few fits = record {
+  some_row = h.some_row;
+  most_rows = h.most_rows;
+  few = omega (arith, length-append facts.instrs (instr ∷ []));
+  labels_apart = subst (λ (names : List (List ℕ)). are_apart names ≡ true) (sym (labels_push facts.instrs instr)) (apart_push (labels_of facts.instrs) instr.label h.labels_apart (label_among instr.label facts.instrs ∙ new));
+  pins_apart = h.pins_apart;
+  instrs = All-push (IsInstrLine (declaration_so_far facts.declared)) facts.instrs instr h.instrs fits;
+}

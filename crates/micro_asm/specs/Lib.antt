@@ -1,0 +1,11 @@
+pub mod Statements
+pub mod Mnemonics
+pub mod Operations
+pub mod Settings
+pub mod Flow
+pub mod Earlier
+pub mod Judging
+pub mod Source
+pub mod SourceSteps
+pub mod Results
+pub mod SourceStateView
