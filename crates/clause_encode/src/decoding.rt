@@ -6,6 +6,7 @@ ghost use Rattle.clause_words.specs.Truth.{AllHold, value_in};
 ghost use Rattle.clause_words.specs.Number.{var_count_of};
 ghost use Rattle.clause_words.specs.Shape.{one, any_of};
 ghost use Rattle.clause_words.specs.Clauses.{clauses_of};
+ghost use Rattle.clause_words.specs.Meaning.{HaveTrueCells};
 ghost use Rattle.clause_words.specs.PinCells.{HavePinCells};
 
 use crate::numbers::{col_var, row_var};
@@ -46,7 +47,8 @@ fn first_true(model: &[bool], count: u32, first: u32) -> u32
 fn read_cells(alloc: Global, program: &Program, model: &[bool]) -> Result<Vec<Cell>, OutOfMemory>
     requires count { length model.now ≡ var_count_of (length (graph_of program.now).instrs) }
     requires holds { AllHold (value_in model.now) (clauses_of (graph_of program.now)) }
-    ensures { IfOk result (λ cells. IsLegal (graph_of program.now) cells.items) }
+    ensures legal { IfOk result (λ cells. IsLegal (graph_of program.now) cells.items) }
+    ensures decodes { IfOk result (λ cells. HaveTrueCells (value_in model.now) cells.items) }
 {
     pin_cells(program.pins().as_slice());
     let labels = u32::from(program.len());
@@ -64,7 +66,8 @@ fn read_cells(alloc: Global, program: &Program, model: &[bool]) -> Result<Vec<Ce
 pub fn place_of(alloc: Global, program: &Program, model: &Truths) -> Result<Placement, OutOfMemory>
     requires count { length model.now ≡ var_count_of (length (graph_of program.now).instrs) }
     requires holds { AllHold (value_in model.now) (clauses_of (graph_of program.now)) }
-    ensures { IfOk result (IsLegal (graph_of program.now)) }
+    ensures legal { IfOk result (IsLegal (graph_of program.now)) }
+    ensures decodes { IfOk result (HaveTrueCells (value_in model.now)) }
 {
     let cells = read_cells(alloc, program, model.as_slice())?;
     Ok(Placement::new(cells))

@@ -23,6 +23,7 @@ mod shapes;
 mod trap_places;
 mod traps;
 
+pub use clause_words::Truths;
 pub use counting::clause_count;
 pub use decoding::place_of;
 pub use encoding::{encode, var_count};
@@ -30,7 +31,5 @@ pub use numbered::clause_at;
 
 #[cfg(test)]
 mod model_tables;
-#[cfg(test)]
-mod program_tables;
 #[cfg(test)]
 mod worked_examples;

@@ -187,7 +187,7 @@ length-clauses g a b c ha hb hc =
     length-append (class_1 n ++ class_2 n ++ class_3 g ++ class_4 g) (class_5 g) ∙ total _ _ _ _ _ _ _ _ n (pairs_below n) (length-class_1 n) (length-class_2 n) l2 l3 l4 ha hb hc
   where
     total : (c1 c2 c3 c4 c5 l2 l3 l4 n p : ℕ) → c1 ≡ n * 618 → c2 ≡ p * 48 → l2 ≡ c1 + c2 → l3 ≡ l2 + c3 → l4 ≡ l3 + c4 → c3 ≡ a → c4 ≡ b → c5 ≡ c → l4 + c5 ≡ 618 * n + 48 * p + a + b + c
-    total c1 c2 c3 c4 c5 l2 l3 l4 n p h1 h2 e2 e3 e4 x y z = omega arith
+    total c1 c2 c3 c4 c5 l2 l3 l4 n p cells pairs two three four givens flows traps = omega arith
 
 -- at most 512 labels times 32 rows
 pub few-product : (a b : ℕ) → a ≤ 512 → b ≤ 32 → a * b ≤ 16384

@@ -19,7 +19,7 @@ use Rattle.clause_words.specs.Truth.{clause_holds, AllHold}
 use Rattle.clause_words.specs.Number.{row_var, col_var}
 use Rattle.clause_words.specs.Shape.{one, any_of}
 use Rattle.clause_words.specs.FirstLabel.{first_label}
-use Rattle.clause_words.specs.Meaning.{row_at, col_at}
+use Rattle.clause_words.specs.Meaning.{row_at, col_at, HaveTrueCells}
 use Rattle.clause_words.specs.Clauses.{at_clauses, bound_clauses, flow_clauses, trap_clauses, class_1, class_2, class_3, class_4, class_5, clauses_of, pin_clauses, instr_clauses, instr_traps}
 use Rattle.clause_words.proofs.CanJump.{CanJump, IsValid, has-from_can}
 use Rattle.clause_words.proofs.JumpLemmas.{row-of, col-of, same_cell, cell-at}
@@ -148,17 +148,25 @@ pub record IsReadCell (a : ℕ → Bool) (i : ℕ) (p : Position) : Type 0 where
   pub row : a (row_var i 0 + p.row) ≡ true
   pub col : a (col_var i 0 + p.col) ≡ true
 
+-- the variables of such cells are true
+pub true-cells : (a : ℕ → Bool) (place : List Position) → ((i : ℕ) (p : Position) → slice_get place i ≡ Some p → IsReadCell a i p) → HaveTrueCells a place
+true-cells a place cells = λ i p at.
+    let read : IsReadCell a i p = cells i p at in
+    let row_is : row_var i 0 + p.row ≡ row_var i p.row = omega arith in
+    let col_is : col_var i 0 + p.col ≡ col_var i p.col = omega arith in
+    (ap a (sym row_is) ∙ read.row, ap a (sym col_is) ∙ read.col)
+
 -- class 1, one label
 pub class_1-rows : (a : ℕ → Bool) (g : Graph) (i : ℕ) → i < length g.instrs → AllHold a (clauses_of g) → AllHold a (one (any_of 32 (row_var i 0))) × AllHold a (one (any_of 16 (col_var i 0)))
 unfolding clauses_of
 class_1-rows a g i lt h =
     let n = length g.instrs in
     let P : List ℤ → Type 0 = λ c. clause_holds a c ≡ true in
-    let h4 : AllHold a (class_1 n ++ class_2 n ++ class_3 g ++ class_4 g) = All-append_left P (class_1 n ++ class_2 n ++ class_3 g ++ class_4 g) (class_5 g) h in
-    let h3 : AllHold a (class_1 n ++ class_2 n ++ class_3 g) = All-append_left P (class_1 n ++ class_2 n ++ class_3 g) (class_4 g) h4 in
-    let h2 : AllHold a (class_1 n ++ class_2 n) = All-append_left P (class_1 n ++ class_2 n) (class_3 g) h3 in
-    let h1 : AllHold a (class_1 n) = All-append_left P (class_1 n) (class_2 n) h2 in
-    let two = class_1-holds a n h1 i lt in
+    let first_four : AllHold a (class_1 n ++ class_2 n ++ class_3 g ++ class_4 g) = All-append_left P (class_1 n ++ class_2 n ++ class_3 g ++ class_4 g) (class_5 g) h in
+    let first_three : AllHold a (class_1 n ++ class_2 n ++ class_3 g) = All-append_left P (class_1 n ++ class_2 n ++ class_3 g) (class_4 g) first_four in
+    let first_two : AllHold a (class_1 n ++ class_2 n) = All-append_left P (class_1 n ++ class_2 n) (class_3 g) first_three in
+    let cells : AllHold a (class_1 n) = All-append_left P (class_1 n) (class_2 n) first_two in
+    let two = class_1-holds a n cells i lt in
     (hot-any a 32 (row_var i 0) two.0.0 two.0.1, hot-any a 16 (col_var i 0) two.1.0 two.1.1)
 
 -- the cells that were read are a placement with the rows and columns of the values

@@ -123,13 +123,13 @@ goto-holds a n rho gam s m hrs hcs hrm hcm h =
     let zero_row : List (List ℤ) = one (minus g1 ∷ plus (row_var m 0) ∷ []) in
     let low : List (List ℤ) = one (minus g1 ∷ minus (col_var m 15) ∷ []) in
     let rows : List (List ℤ) = same_where g2 32 (row_var s 0) (row_var m 0) in
-    let h4 : AllHold a (some ++ cols ++ zero_row ++ low) = All-append_left P (some ++ cols ++ zero_row ++ low) rows h in
-    let h3 : AllHold a (some ++ cols ++ zero_row) = All-append_left P (some ++ cols ++ zero_row) low h4 in
-    let h2 : AllHold a (some ++ cols) = All-append_left P (some ++ cols) zero_row h3 in
-    let is_some : AllHold a some = All-append_left P some cols h2 in
-    let is_cols : AllHold a cols = All-append_right P some cols h2 in
-    let is_zero : AllHold a zero_row = All-append_right P (some ++ cols) zero_row h3 in
-    let is_low : AllHold a low = All-append_right P (some ++ cols ++ zero_row) low h4 in
+    let before_rows : AllHold a (some ++ cols ++ zero_row ++ low) = All-append_left P (some ++ cols ++ zero_row ++ low) rows h in
+    let before_low : AllHold a (some ++ cols ++ zero_row) = All-append_left P (some ++ cols ++ zero_row) low before_rows in
+    let before_zero : AllHold a (some ++ cols) = All-append_left P (some ++ cols) zero_row before_low in
+    let is_some : AllHold a some = All-append_left P some cols before_zero in
+    let is_cols : AllHold a cols = All-append_right P some cols before_zero in
+    let is_zero : AllHold a zero_row = All-append_right P (some ++ cols) zero_row before_low in
+    let is_low : AllHold a low = All-append_right P (some ++ cols ++ zero_row) low before_rows in
     let is_rows : AllHold a rows = All-append_right P (some ++ cols ++ zero_row ++ low) rows h in
     elim (cases_Bool (a g0)) as (λ _. (gam s ≡ gam m) ⊎ (((rho m ≡ 0) × (gam m < 15)) ⊎ (rho s ≡ rho m))) [
       | inl t ↦ inl (sym (hot-is a 16 (col_var m 0) (gam m) (gam s) hcm hcs.within (same_where-holds a g0 16 (col_var s 0) (col_var m 0) (omega arith) hcs.above is_cols t (gam s) hcs.within (hot-here a 16 (col_var s 0) (gam s) (gam s) hcs refl))))

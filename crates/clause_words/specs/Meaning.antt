@@ -1,5 +1,5 @@
 -- The truth value of each variable under a placement, in the order of the variables' numbers.
-use Rattle.std.specs.Prelude.{ℕ, ◌==◌, ◌&&◌, nat_lt, Bool, false, not, List, [], ◌∷◌, ◌++◌, length, Option, slice_get}
+use Rattle.std.specs.Prelude.{ℕ, ◌≡◌, ◌==◌, ◌&&◌, nat_lt, Bool, true, false, not, List, [], ◌∷◌, ◌++◌, length, Option, Some, slice_get}
 use Rattle.std.specs.Option.{option_map_or}
 use Rattle.mcu_jumps.specs.Position.{Position}
 use Rattle.mcu_jumps.specs.declared.codes.Kind.{Kind}
@@ -7,6 +7,7 @@ use Rattle.mcu_jumps.specs.declared.codes.Kind.TheVariants as kind
 use Rattle.flow_graph.specs.declared.instructions.Instr.{Instr}
 use Rattle.flow_graph.specs.Graph.{Graph}
 use Rattle.clause_words.specs.Upto.{upto, each_of}
+use Rattle.clause_words.specs.Number.{row_var, col_var}
 use Rattle.clause_words.specs.FirstLabel.{first_label}
 
 -- the row of a label
@@ -56,3 +57,8 @@ meaning g place =
     upto (length g.instrs) (cell_truths place)
     ++ upto (length g.instrs) (differ_truths place)
     ++ each_of g.instrs (instr_truths place)
+
+-- each label has a row and a column whose variables are true
+abbrev pub HaveTrueCells : (ℕ → Bool) → List Position → Type 0
+HaveTrueCells values place = (i : ℕ) (cell : Position) → slice_get place i ≡ Some cell
+    → (values (row_var i cell.row) ≡ true) × (values (col_var i cell.col) ≡ true)

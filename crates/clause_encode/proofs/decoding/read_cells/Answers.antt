@@ -6,7 +6,7 @@ use Rattle.flow_graph.specs.Graph.{graph_of}
 use Rattle.clause_words.specs.Truth.{AllHold, value_in}
 use Rattle.clause_words.specs.Shape.{one, any_of}
 use Rattle.clause_words.specs.PinCells.{HavePinCells}
-use Rattle.clause_words.proofs.DecodeLemmas.{IsReadCell, class_1-rows, read-from, read-more, legal-from}
+use Rattle.clause_words.proofs.DecodeLemmas.{IsReadCell, class_1-rows, read-from, read-more, legal-from, true-cells}
 use Rattle.clause_encode.proofs.decoding.read_cells.Goals as goal
 
 pub first_true-row-requires-clause-some : goal.first_true-row-requires-clause-some
@@ -42,9 +42,12 @@ loop-label-preserved c =
       cells = read-more a c.loop-label.cells.items i c.at.result c.loop-label.invariant.count c.loop-label.invariant.cells here;
     })
 
-pub returns : goal.returns
-returns c =
+pub returns-clause-legal : goal.returns-clause-legal
+returns-clause-legal c =
     let a = value_in c.args.model.now in
     let g = graph_of c.args.program.now in
     let count : length c.loop-label.cells.items ≡ length g.instrs = omega (arith, c.len.ensures, c.from-labels.ensures, c.loop-label.invariant.count) in
     legal-from a g c.loop-label.cells.items c.args.program.now.valid (subst HavePinCells (c.as_slice.ensures ∙ c.pins.ensures) c.pin_cells.ensures) (read-from a g c.loop-label.cells.items c.requires.holds count c.loop-label.invariant.cells) c.requires.holds
+
+pub returns-clause-decodes : goal.returns-clause-decodes
+returns-clause-decodes c = true-cells (value_in c.args.model.now) c.loop-label.cells.items c.loop-label.invariant.cells
