@@ -1,0 +1,4 @@
+pub mod FlagBits
+pub mod OrderFits
+pub mod TextSteps
+pub mod StartFits

@@ -1,0 +1,4 @@
+pub mod Machine
+pub mod Flow
+pub mod TraceText
+pub mod Runs
