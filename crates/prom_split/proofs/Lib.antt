@@ -1,0 +1,13 @@
+pub mod ListSteps
+pub mod Widths
+pub mod CodesBack
+pub mod FieldBits
+pub mod WordSum
+pub mod ImageBits
+pub mod PlacedSteps
+pub mod PlacedLaws
+pub mod SplitSteps
+pub mod JoinSteps
+pub mod JoinedBack
+pub mod PartsBack
+pub mod SavedBits
