@@ -1,0 +1,28 @@
+//! Saving texts on a shelf, in order, each file by one `create` and then appends.
+//!
+//! The promise to the layers above: where no call fails, each file holds just its bytes and all others
+//! stay; after a fault the files before it stand whole, the file is as it was or holds a prefix of its
+//! bytes, and all others stay. What is said of a file's bytes holds over a shelf that tells its files and
+//! is honest. No memory is taken while files are saved.
+#![tactic(auto)]
+
+mod laws;
+mod names;
+mod one_file;
+mod placed;
+mod saving;
+#[cfg(test)]
+mod tests;
+mod text;
+mod unsaved;
+
+pub use laws::{
+    later_files_stay, one_written_file_is_saved, placed_files_may_be_saved, saved_placement_stands,
+    saving_from_before,
+};
+pub use names::{image_name, layout_name, map_name, refutation_name, undecided_name};
+pub use one_file::{begin_file, grow_file, save_file};
+pub use placed::placed_files;
+pub use saving::save_all;
+pub use text::Text;
+pub use unsaved::{room_for_unsaved, say_unsaved};

@@ -1,0 +1,3 @@
+mod growing;
+mod in_order;
+mod telling;
