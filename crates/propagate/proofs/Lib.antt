@@ -1,0 +1,4 @@
+pub mod Looks
+pub mod Extending
+pub mod Forcing
+pub mod SettledLevels

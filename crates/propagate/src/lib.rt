@@ -1,0 +1,15 @@
+//! Unit propagation over a clause list.
+//!
+//! A board holds a list of clauses and the literals that are assigned over it. It keeps that each implied
+//! literal is the unassigned one of its reason, which was unit before it, and that propagation was complete
+//! at every level below the present one: no decision is made while a clause is unit or false.
+#![tactic(auto)]
+
+mod board;
+mod clause_status;
+mod scan;
+
+pub use board::{Board, Settled};
+
+#[cfg(test)]
+mod tests;
