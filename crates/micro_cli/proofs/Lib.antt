@@ -1,5 +1,2 @@
-pub mod FixedLists
-pub mod Elements
-pub mod TextLemmas
-pub mod PlainLemmas
-pub mod EndingLemmas
+pub mod FlowSteps
+pub mod NumberSteps

@@ -1,12 +1,16 @@
 -- The commands, and the words that ask for them (this project's own choice).
-use Rattle.std.specs.Prelude.{ℕ, List, [], ◌∷◌, Option, None, Some, Bool, ◌&&◌, nat_lt, nat_le, length, codes, if◌then◌else◌}
+use Rattle.std.specs.Prelude.{ℕ, List, [], ◌∷◌, Option, None, Some, Bool, ◌&&◌, nat_lt, nat_le, length, take, drop, codes, if◌then◌else◌}
+use Rattle.std.specs.Char.{is_ascii_digit}
 use Rattle.std.specs.List.{list_all}
 use Rattle.std.specs.Str.{bytes_eq}
+use Rattle.std.specs.Str.Parse.{digits_value}
 
--- what the program is asked for, with the names of the files
+-- what the program is asked for, with the names of the files and the number of clocks
 pub data Command : Type 0 where
   -- `map SRC`: the map of a source
   map : List ℕ → Command
+  -- `flow SRC SCRIPT clocks=N`: the trace of the symbolic flow of a source
+  flow : List ℕ → List ℕ → ℕ → Command
 
 -- bytes from 0x21 to 0x7e
 abbrev pub is_printable : List ℕ → Bool
@@ -16,7 +20,38 @@ is_printable bytes = list_all (λ b. nat_le 33 b && nat_le b 126) bytes
 abbrev pub is_file_name : List ℕ → Bool
 is_file_name bytes = nat_lt 0 (length bytes) && nat_le (length bytes) 200 && is_printable bytes
 
+-- a number: 1 to 20 decimal digits
+abbrev pub is_number : List ℕ → Bool
+is_number digits = nat_lt 0 (length digits) && nat_le (length digits) 20 && list_all is_ascii_digit digits
+
+-- the number that these bytes write, where it is one up to this limit
+abbrev pub number_up_to : ℕ → List ℕ → Option ℕ
+number_up_to limit digits = if is_number digits && nat_le (digits_value 10 digits) limit then Some (digits_value 10 digits) else None
+
+-- the number after this key in a word
+abbrev pub setting : List ℕ → ℕ → List ℕ → Option ℕ
+setting key limit word = if bytes_eq key (take (length key) word) then number_up_to limit (drop (length key) word) else None
+
+-- the clocks of a word `clocks=N`, up to 65,536
+abbrev pub clocks_in : List ℕ → Option ℕ
+clocks_in word = setting (codes "clocks=") 65536 word
+
+-- the command that prints a map
+abbrev pub map_command : List ℕ → List ℕ → Option Command
+map_command word src = if bytes_eq word (codes "map") && is_file_name src then Some (map src) else None
+
+-- the command that prints a trace
+abbrev pub trace_command : List ℕ → List ℕ → List ℕ → ℕ → Option Command
+trace_command word file script clocks =
+    if bytes_eq word (codes "flow") then Some (flow file script clocks) else None
+
+-- the same, where the names are names of files and the clocks are given
+abbrev pub trace_by : List ℕ → List ℕ → List ℕ → Option ℕ → Option Command
+trace_by word file script None = None
+trace_by word file script (Some clocks) = if is_file_name file && is_file_name script then trace_command word file script clocks else None
+
 -- the command of these words, where they are one
 abbrev pub command_of : List (List ℕ) → Option Command
-command_of (word ∷ src ∷ []) = if bytes_eq word (codes "map") && is_file_name src then Some (map src) else None
+command_of (word ∷ src ∷ []) = map_command word src
+command_of (word ∷ file ∷ script ∷ clocks ∷ []) = trace_by word file script (clocks_in clocks)
 command_of _ = None

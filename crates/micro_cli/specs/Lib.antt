@@ -1,10 +1,6 @@
-pub mod Texts
-pub mod PlainWords
-pub mod PlainForm
-pub mod PlainParts
 pub mod Command
 pub mod Request
-pub mod Reply
-pub mod Status
+pub mod Mapping
+pub mod Inputs
+pub mod Flowing
 pub mod Answer
-pub mod Ending

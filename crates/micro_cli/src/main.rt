@@ -5,16 +5,14 @@
 #![tactic(auto)]
 
 mod command_words;
-mod endings;
+mod flow_command;
+mod inputs;
 mod map_command;
-mod plain_form;
-mod plain_words;
-mod replies;
-mod status;
+mod numbers;
 mod top_call;
 
 use io_base::{FileShelf, StdSink};
-use status::Status;
+use replies::Status;
 use std::env;
 use std::io::ErrorKind;
 use std::process::ExitCode;

@@ -1,83 +1,57 @@
 //! The command `map SRC`: the map of a source at the cells of its pins.
-ghost use Rattle.std.specs.Prelude.{◌≡◌, ◌≤◌, IfOk, length};
+ghost use Rattle.std.specs.Prelude.{◌≡◌, ◌≤◌, length, codes};
 ghost use Rattle.io_base.specs.Shelf.{GoesOn};
 ghost use Rattle.io_base.specs.Sink.{Flows};
 ghost use Rattle.flow_graph.specs.Graph.{graph_of};
-ghost use Rattle.micro_cli.specs.Reply.{ProgramReply, SourceReply};
-ghost use Rattle.micro_cli.specs.Answer.{MapAnswer};
-ghost use Rattle.micro_cli.specs.Ending.{Ends};
+ghost use Rattle.replies.specs.Ending.{Ends, ComesTo, OrNoMemory};
+ghost use Rattle.micro_cli.specs.Mapping.{MapReply, ProgramReply, map_kind_name};
 
-use crate::endings::say;
-use crate::plain_form::read_plain;
-use crate::replies::{Reply, cannot_read, refused, refused_line};
-use crate::status::Status;
 use flow_graph::Program;
-use io_base::{LoadFault, OutOfMemory, Shelf, Sink, load};
-use place_model::{MapFault, map_text, pinned};
+use io_base::{OutOfMemory, Shelf, Sink};
+use place_model::{MapFault, MapKind, map_text, pinned};
+use replies::{Reply, Status, Stop, load_source, refuse_line, say_end};
 use std::alloc::Global;
 
-/// The most bytes of a source.
-const SOURCE_LIMIT: u64 = 1_048_576;
-
-// The reply to a program.
-fn program_reply(alloc: Global, src: &str, program: &Program) -> Result<Reply, OutOfMemory>
-    ensures { IfOk result (λ reply. ProgramReply src.now (graph_of program.now) reply.status reply.text.items) }
+// The name of what is wrong with the pinned cells.
+fn map_kind_name(kind: MapKind) -> &'static [u8]
+    ensures { result.now ≡ map_kind_name kind }
 {
-    match pinned(alloc, program) {
-        Ok(placement) => Ok(Reply {
-            status: Status::Done,
-            text: map_text(alloc, program, &placement)?,
-        }),
-        Err(MapFault::At { line, kind }) => Ok(Reply {
-            status: Status::Input,
-            text: refused_line(alloc, src, line, kind)?,
-        }),
-        Err(MapFault::OutOfMemory) => Err(OutOfMemory),
+    match kind {
+        MapKind::Unpinned => b"Unpinned",
+        MapKind::SameCell => b"SameCell",
+        MapKind::RowBound => b"RowBound",
+        MapKind::StartCell => b"StartCell",
+        MapKind::NoJump => b"NoJump",
     }
 }
 
-// The reply to a source within the limit.
-fn source_reply(alloc: Global, src: &str, bytes: &[u8]) -> Result<Reply, OutOfMemory>
-    ensures { IfOk result (λ reply. SourceReply src.now bytes.now reply.status reply.text.items) }
+// The reply to a program.
+fn program_reply(alloc: Global, src: &str, program: &Program) -> Result<Reply, Stop>
+    ensures { ComesTo (ProgramReply src.now (graph_of program.now)) result }
 {
-    match read_plain(alloc, bytes)? {
-        None => Ok(Reply {
-            status: Status::Input,
-            text: refused(alloc, src, b"NotYet")?,
-        }),
-        Some(program) => {
-            let reply = program_reply(alloc, src, &program)?;
-            Ok(reply)
-        }
+    match pinned(alloc, program) {
+        Ok(placement) => match map_text(alloc, program, &placement) {
+            Ok(text) => Ok(Reply {
+                status: Status::Done,
+                text,
+            }),
+            Err(OutOfMemory) => Err(Stop::OutOfMemory),
+        },
+        Err(MapFault::At { line, kind }) => Err(refuse_line(alloc, src, line, map_kind_name(kind))),
+        Err(MapFault::OutOfMemory) => Err(Stop::OutOfMemory),
     }
 }
 
 // The reply to what stands under the name of the source.
-fn file_reply<S: Shelf>(alloc: Global, shelf: &mut S, src: &str) -> Result<Reply, OutOfMemory>
+fn map_reply<S: Shelf>(alloc: Global, shelf: &mut S, src: &str) -> Result<Reply, Stop>
     requires { length src.now ≤ 220 }
-    ensures answer { IfOk result (λ reply. MapAnswer src.now (S.state shelf.old) (S.state shelf.new) reply.status reply.text.items) }
+    ensures reply { ComesTo (MapReply src.now (S.state shelf.old) (S.state shelf.new)) result }
     ensures same { (S.state shelf.new).file ≡ (S.state shelf.old).file }
     ensures goes_on { GoesOn (S.state shelf.old) (S.state shelf.new) }
 {
-    match load(alloc, shelf, src, SOURCE_LIMIT) {
-        Ok(bytes) => {
-            let reply = source_reply(alloc, src, &bytes)?;
-            Ok(reply)
-        }
-        Err(LoadFault::Failed) => Ok(Reply {
-            status: Status::ShelfFault,
-            text: cannot_read(alloc, src)?,
-        }),
-        Err(LoadFault::NoFile) => Ok(Reply {
-            status: Status::Input,
-            text: refused(alloc, src, b"NoFile")?,
-        }),
-        Err(LoadFault::TooLong) => Ok(Reply {
-            status: Status::Input,
-            text: refused(alloc, src, b"TooLong")?,
-        }),
-        Err(LoadFault::OutOfMemory) => Err(OutOfMemory),
-    }
+    let program = load_source(alloc, shelf, src)?;
+    let reply = program_reply(alloc, src, &program)?;
+    Ok(reply)
 }
 
 /// Answers `map SRC`. No file changes.
@@ -88,13 +62,12 @@ pub fn map_command<S: Shelf, K: Sink>(
     src: &str,
 ) -> Status
     requires { length src.now ≤ 220 }
-    ensures ends { Ends (MapAnswer src.now (S.state shelf.old) (S.state shelf.new)) (K.state out.old) (K.state out.new) result }
+    ensures ends { Ends (OrNoMemory (MapReply src.now (S.state shelf.old) (S.state shelf.new)))
+        (K.state out.old) (K.state out.new) result }
     ensures same { (S.state shelf.new).file ≡ (S.state shelf.old).file }
     ensures goes_on { GoesOn (S.state shelf.old) (S.state shelf.new) }
     ensures flows { Flows (K.state out.old) (K.state out.new) }
 {
-    match file_reply(alloc, shelf, src) {
-        Ok(reply) => say(out, reply.status, reply.text.as_slice()),
-        Err(OutOfMemory) => say(out, Status::NoMemory, b"no memory\n"),
-    }
+    let end = map_reply(alloc, shelf, src);
+    say_end(out, end)
 }

@@ -4,13 +4,13 @@ ghost use Rattle.io_base.specs.Shelf.{GoesOn};
 ghost use Rattle.io_base.specs.Sink.{Flows};
 ghost use Rattle.micro_cli.specs.Command.{command_of};
 ghost use Rattle.micro_cli.specs.Answer.{Answer};
-ghost use Rattle.micro_cli.specs.Ending.{Ends};
+ghost use Rattle.replies.specs.Ending.{Ends};
 
 use crate::command_words::{Request, request_of};
-use crate::endings::say;
+use crate::flow_command::flow_command;
 use crate::map_command::map_command;
-use crate::status::Status;
 use io_base::{Shelf, Sink};
+use replies::{Status, say};
 use std::alloc::Global;
 
 /// Answers the words of the command line: reads files from the shelf and writes the answer's text to `out`.
@@ -26,6 +26,11 @@ pub fn top<S: Shelf, K: Sink>(alloc: Global, words: &[String], shelf: &mut S, ou
 {
     match request_of(words) {
         Request::Map { src } => map_command(alloc, shelf, out, src),
+        Request::Flow {
+            src,
+            script,
+            clocks,
+        } => flow_command(alloc, shelf, out, src, script, clocks),
         Request::Unknown => say(out, Status::Words, b"refused words\n"),
     }
 }

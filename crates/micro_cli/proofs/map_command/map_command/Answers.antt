@@ -1,11 +1,8 @@
-use Rattle.std.proofs.Common.{refl}
-use Rattle.std.specs.Prelude.{codes}
-use Rattle.micro_cli.specs.Answer.{MapAnswer}
-use Rattle.micro_cli.specs.declared.status.Status.TheVariants as status
-use Rattle.micro_cli.proofs.EndingLemmas.{says_ends}
+use Rattle.micro_cli.specs.Mapping.{MapReply}
+use Rattle.replies.proofs.Stopping.{said_end}
 use Rattle.micro_cli.proofs.map_command.map_command.Goals as goal
 
-pub returns-in-Err-clause-ends : goal.returns-in-Err-clause-ends
-returns-in-Err-clause-ends g c =
-    says_ends (MapAnswer c.args.src.now (g.S.Shelf.state c.args.shelf.now) (g.S.Shelf.state c.file_reply.new.shelf)) status.NoMemory (codes "no memory\n")
-    (g.K.Sink.state c.args.out.now) (g.K.Sink.state c.say-in-Err.new.out) c.say-in-Err.result refl c.say-in-Err.ensures.says
+pub returns-clause-ends : goal.returns-clause-ends
+returns-clause-ends g c =
+    said_end (MapReply c.args.src.now (g.S.Shelf.state c.args.shelf.now) (g.S.Shelf.state c.map_reply-end.new.shelf)) c.map_reply-end.result
+    (g.K.Sink.state c.args.out.now) (g.K.Sink.state c.say_end.new.out) c.say_end.result c.map_reply-end.ensures.reply c.say_end.ensures.says
