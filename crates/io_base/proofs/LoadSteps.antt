@@ -37,7 +37,7 @@ pub loading_starts : (shelf : ShelfState) (name bytes : List ℕ) → bytes ≡ 
 loading_starts shelf name bytes is_empty =
     let P : List ℕ → Type 0 = λ b. IsLoading shelf shelf name b in
     subst P (sym is_empty) (record {
-      goes_on = record { later = omega arith; tells = refl; honest = refl };
+      goes_on = record { later = omega arith; taken = omega arith; absent = omega arith; tells = refl; honest = refl };
       same = refl;
       taken = counted-zero shelf.taken;
       absent = refl;
@@ -63,7 +63,13 @@ loading_goes_on old now new name bytes buf more at n here so_far goes_on same co
     let P : List ℕ → Type 0 = λ b. IsLoading old new name b in
     let size : length (bytes ++ take n buf) ≡ length bytes + n = omega (arith, length-append bytes (take n buf), length-take-le n buf within) in
     subst P (sym grown) (record {
-      goes_on = record { later = omega arith; tells = cc; honest = cc };
+      goes_on = record {
+        later = omega arith;
+        taken = omega (arith, so_far.goes_on.taken, goes_on.taken);
+        absent = omega (arith, so_far.goes_on.absent, goes_on.absent);
+        tells = cc;
+        honest = cc;
+      };
       same = cc;
       taken = counts.0 ∙ ap (λ (t : ℕ). counted t n) so_far.taken ∙ counted-counted old.taken (length bytes) n ∙ ap (λ (k : ℕ). counted old.taken k) (sym size);
       absent = cc;

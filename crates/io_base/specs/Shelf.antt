@@ -41,9 +41,11 @@ pub record SameButFiles (old new : ShelfState) : Type 0 where
   pub tells : new.tells ≡ old.tells
   pub honest : new.honest ≡ old.honest
 
--- what every call keeps: the count of faults never falls, and the shelf stays of its kind
+-- what every call keeps: no count falls, and the shelf stays of its kind
 pub record GoesOn (old new : ShelfState) : Type 0 where
   pub later : old.faults ≤ new.faults
+  pub taken : old.taken ≤ new.taken
+  pub absent : old.absent ≤ new.absent
   pub tells : new.tells ≡ old.tells
   pub honest : new.honest ≡ old.honest
 
@@ -52,6 +54,11 @@ pub record HasCause {T : Type 0} (old new : ShelfState) (name : List ℕ) (resul
   pub rose : OnErr result (Rose old.faults new.faults)
   pub named : OnErr result (new.last_failed ≡ name)
   pub kept : OnOk result (new.last_failed ≡ old.last_failed)
+
+-- so many bytes were taken, and no read answered that a name is not there
+pub record CountsTaken (old new : ShelfState) (n : ℕ) : Type 0 where
+  pub taken : new.taken ≡ counted old.taken n
+  pub absent : new.absent ≡ old.absent
 
 -- the counts of reads stand as they did
 pub record CountsNoRead (old new : ShelfState) : Type 0 where

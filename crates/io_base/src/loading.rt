@@ -1,7 +1,7 @@
 //! Loading a whole file, up to a limit.
 ghost use Rattle.std.specs.Prelude.{◌≡◌, ◌≤◌, ◌<◌, ◌-◌, ◌+◌, length, IsTrue, IfOk, IsErrOf, MatchResult, ◌⊎◌};
 ghost use Rattle.io_base.specs.Causes.{Rose};
-ghost use Rattle.io_base.specs.Shelf.{GoesOn};
+ghost use Rattle.io_base.specs.Shelf.{GoesOn, CountsTaken};
 ghost use Rattle.io_base.specs.Loading.{IsWhole, ExplainsFault, TookMore};
 
 use crate::{Failed, Shelf};
@@ -46,6 +46,8 @@ pub fn load<S: Shelf>(
 
     // What holds over every shelf.
     ensures fits { IfOk result (λ bytes. length bytes.items ≤ limit) }
+    ensures counted { IfOk result (λ bytes.
+        CountsTaken (S.state shelf.old) (S.state shelf.new) (length bytes.items)) }
     ensures failed { IsErrOf result LoadFault.Failed →
         Rose (S.state shelf.old).faults (S.state shelf.new).faults }
     ensures failed_name { IsErrOf result LoadFault.Failed →

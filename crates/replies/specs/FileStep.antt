@@ -1,19 +1,18 @@
 -- The step of a command that loads a file: its bytes, or the reply that ends the command (this project's own choice).
 use Rattle.std.specs.Prelude.{ℕ, ◌≡◌, ◌≤◌, ◌<◌, ◌-◌, ◌⊎◌, List, length, Some, IsTrue, codes}
 use Rattle.io_base.specs.Causes.{Rose}
-use Rattle.io_base.specs.Shelf.{ShelfState, GoesOn}
+use Rattle.io_base.specs.Shelf.{ShelfState, GoesOn, CountsTaken}
 use Rattle.io_base.specs.Loading.{TookMore, ExplainsFault}
 use Rattle.io_base.specs.declared.loading.LoadFault.TheVariants as fault
 use Rattle.replies.specs.Texts.{Refuses, Unread}
 use Rattle.replies.specs.declared.status.Status.{Status}
 
--- these are the bytes that were read under a name: where the shelf tells its files, the file's; no read told that the name
--- is absent, and not more than the limit were taken
+-- these are the bytes that were read under a name: where the shelf tells its files, the file's; just they were taken, and no
+-- read told that the name is absent
 pub record HasFile (name : List ℕ) (limit : ℕ) (old new : ShelfState) (bytes : List ℕ) : Type 0 where
   pub fits : length bytes ≤ limit
   pub told : IsTrue old.tells → old.file name ≡ Some bytes
-  pub present : old.absent < new.absent → ⊥
-  pub within : limit < new.taken - old.taken → ⊥
+  pub counted : CountsTaken old new (length bytes)
   pub same : new.file ≡ old.file
   pub last_failed : new.last_failed ≡ old.last_failed
   pub goes_on : GoesOn old new

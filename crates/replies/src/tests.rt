@@ -1,67 +1,33 @@
-//! How texts are said, and how scripts are loaded and read.
+//! Each reply's text, and each step's happy path.
 
-use super::*;
-use io_base::{MemShelf, MemSink};
+mod endings;
+mod files;
+mod kinds;
+mod scripts;
+mod source_refusals;
+mod sources;
+
+use crate::{Status, Stop, load_source, say_stop};
+use io_base::{MemShelf, MemSink, OutOfMemory};
 use std::alloc::Global;
-use std::test::Fail;
 
-// What a stopped command ends with and prints.
-fn said(alloc: Global, stop: Stop) -> (Status, MemSink) {
+/// Whether a command that is stopped ends with this status and prints this text.
+fn says(alloc: Global, stop: Stop, status: Status, text: &[u8]) -> bool {
     let mut out = MemSink::new(alloc);
-    let status = say_stop(&mut out, stop);
-    (status, out)
+    say_stop(&mut out, stop) == status && out.bytes() == text
 }
 
-#[test]
-fn loads_scripts(rt: HostRuntime) -> Result<(), Fail> {
-    let alloc = rt.alloc();
+/// A shelf with one file.
+fn shelf_with(alloc: Global, name: &str, bytes: &[u8]) -> Result<MemShelf, OutOfMemory> {
     let mut shelf = MemShelf::new(alloc);
-    shelf.put_file("t", b"clk\nclk sx=9\n")?;
-    match load_script(alloc, &mut shelf, "t", 16) {
-        Ok(script) => assert_eq!(rt; bus_script::at(&script, 1).sx, 9),
-        Err(_) => assert!(rt; false),
-    }
-    match load_script(alloc, &mut shelf, "u", 16) {
-        Ok(_) => assert!(rt; false),
-        Err(stop) => {
-            let (status, out) = said(alloc, stop);
-            assert_eq!(rt; status, Status::Input);
-            assert_eq!(rt; out.bytes(), b"refused u NoFile\n".as_slice());
-        }
-    }
-    Ok(())
+    shelf.put_file(name, bytes)?;
+    Ok(shelf)
 }
 
-#[test]
-fn reads_scripts(rt: HostRuntime) -> Result<(), Fail> {
-    let alloc = rt.alloc();
-    match script_from(alloc, "t", b"clk px=5\n", 1) {
-        Ok(script) => assert_eq!(rt; bus_script::at(&script, 0).px, 5),
-        Err(_) => assert!(rt; false),
+/// Whether the step that reads the source `s` of this shelf stops with this status and text.
+fn source_stops(alloc: Global, shelf: &mut MemShelf, status: Status, text: &[u8]) -> bool {
+    match load_source(alloc, shelf, "s") {
+        Ok(_) => false,
+        Err(stop) => says(alloc, stop, status, text),
     }
-    match script_from(alloc, "t", b"clk i=4\n", 1) {
-        Ok(_) => assert!(rt; false),
-        Err(stop) => {
-            let (status, out) = said(alloc, stop);
-            assert_eq!(rt; status, Status::Input);
-            assert_eq!(rt; out.bytes(), b"refused t line 1 Value\n".as_slice());
-        }
-    }
-    Ok(())
-}
-
-#[test]
-fn ends_with_the_status_of_a_text(rt: HostRuntime) -> Result<(), Fail> {
-    let alloc = rt.alloc();
-    let mut out = MemSink::new(alloc);
-    assert_eq!(rt; say(&mut out, Status::Done, b"done\n"), Status::Done);
-    assert_eq!(rt; out.bytes(), b"done\n".as_slice());
-    let (status, out) = said(alloc, Stop::OutOfMemory);
-    assert_eq!(rt; status, Status::NoMemory);
-    assert_eq!(rt; out.bytes(), b"no memory\n".as_slice());
-    let mut out = MemSink::new(alloc);
-    out.fail(1)?;
-    assert_eq!(rt; say(&mut out, Status::Done, b"done\n"), Status::SinkFault);
-    assert_eq!(rt; out.bytes(), b"".as_slice());
-    Ok(())
 }

@@ -12,11 +12,13 @@ pub rose_before : (a b c : ℕ) → a ≤ b → Rose b c → Rose a c
 rose_before a b c earlier rose = omega (arith, earlier, rose)
 
 pub goes_on_same : (shelf : ShelfState) → GoesOn shelf shelf
-goes_on_same shelf = record { later = omega arith; tells = refl; honest = refl }
+goes_on_same shelf = record { later = omega arith; taken = omega arith; absent = omega arith; tells = refl; honest = refl }
 
 pub goes_on_both : (start old new : ShelfState) → GoesOn start old → GoesOn old new → GoesOn start new
 goes_on_both start old new before after = record {
   later = omega (arith, before.later, after.later);
+  taken = omega (arith, before.taken, after.taken);
+  absent = omega (arith, before.absent, after.absent);
   tells = after.tells ∙ before.tells;
   honest = after.honest ∙ before.honest;
 }

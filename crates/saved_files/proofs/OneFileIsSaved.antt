@@ -1,5 +1,5 @@
 -- A file that was written by itself is a list of one file that was saved, so the words of lists serve both.
-use Rattle.std.proofs.Common.{ℕ, ◌≡◌, ◌<◌, List, [], ◌∷◌, Some, refl, arith, sym, suc, zero, slice_get, subst}
+use Rattle.std.proofs.Common.{ℕ, ◌≡◌, List, [], ◌∷◌, Some, refl, arith, sym, suc, zero, subst}
 use Rattle.io_base.specs.Shelf.{ShelfState}
 use Rattle.saved_files.specs.SavedFile.{SavedFile}
 use Rattle.saved_files.specs.FilesOfAnswers.{file_of}

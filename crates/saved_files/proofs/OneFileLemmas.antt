@@ -3,7 +3,7 @@ use Rattle.std.proofs.Common.{ℕ, ◌≡◌, ◌⊎◌, inl, inr, ◌+◌, ◌+
 use Rattle.std.proofs.Math.Seq.{take-append_seam, take-append-add}
 use Rattle.std.proofs.lemmas.List.{take-append-drop}
 use Rattle.io_base.specs.Causes.{Rose}
-use Rattle.io_base.specs.Shelf.{ShelfState, GoesOn, CountsNoRead, KeepsOthers, IsTold, bytes_or_empty}
+use Rattle.io_base.specs.Shelf.{ShelfState, GoesOn, IsTold, bytes_or_empty}
 use Rattle.saved_files.specs.OneFile.{IsPart, WritesOnly, IsWritten, IsUnwritten}
 
 -- a shelf that was told stays so
@@ -16,7 +16,13 @@ told_goes_on old new goes_on told = record {
 -- what was written of one file and then of the same file
 pub writes_only_both : (start now new : ShelfState) (name : List ℕ) → WritesOnly start now name → WritesOnly now new name → WritesOnly start new name
 writes_only_both start now new name before after = record {
-  goes_on = record { later = omega (arith, before.goes_on.later, after.goes_on.later); tells = after.goes_on.tells ∙ before.goes_on.tells; honest = after.goes_on.honest ∙ before.goes_on.honest };
+  goes_on = record {
+    later = omega (arith, before.goes_on.later, after.goes_on.later);
+    taken = omega (arith, before.goes_on.taken, after.goes_on.taken);
+    absent = omega (arith, before.goes_on.absent, after.goes_on.absent);
+    tells = after.goes_on.tells ∙ before.goes_on.tells;
+    honest = after.goes_on.honest ∙ before.goes_on.honest;
+  };
   no_read = record { taken = after.no_read.taken ∙ before.no_read.taken; absent = after.no_read.absent ∙ before.no_read.absent };
   others = λ other differs. after.others other differs ∙ before.others other differs;
 }

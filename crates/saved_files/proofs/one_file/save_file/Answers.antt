@@ -1,5 +1,4 @@
 use Rattle.std.proofs.Common.{[]}
-use Rattle.saved_files.proofs.OneFileLemmas.{unwritten_longer}
 use Rattle.saved_files.proofs.one_file.save_file.Goals as goal
 
 pub returns-in-Ok-clause-err : goal.returns-in-Ok-clause-err
