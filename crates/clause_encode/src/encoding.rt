@@ -5,8 +5,8 @@ ghost use Rattle.flow_graph.specs.Graph.{graph_of};
 ghost use Rattle.place_model.specs.Legal.{IsLegal};
 ghost use Rattle.clause_words.specs.Truth.{AllHold, value_in};
 ghost use Rattle.clause_words.specs.Number.{var_count_of};
-ghost use Rattle.clause_words.specs.Clauses.{clauses_of};
 ghost use Rattle.clause_words.specs.Meaning.{meaning};
+ghost use Rattle.clause_encode.specs.PlacementList.{list_of};
 
 use crate::cells::{add_class_1, add_class_2};
 use crate::flows::add_class_4;
@@ -29,7 +29,7 @@ pub fn var_count(program: &Program) -> u32
 /// The placement clauses of a program, in their order. The values that a legal placement gives the
 /// variables make each of them true.
 pub fn encode(alloc: Global, program: &Program) -> Result<ClauseList, OutOfMemory>
-    ensures clauses { IfOk result (λ list. list ≡ record { vars = var_count_of (length (graph_of program.now).instrs); clauses = clauses_of (graph_of program.now) }) }
+    ensures clauses { IfOk result (λ list. list ≡ list_of (graph_of program.now)) }
     ensures sound { (place : List Position) → IsLegal (graph_of program.now) place → IfOk result (λ list. AllHold (value_in (meaning (graph_of program.now) place)) list.clauses) }
 {
     let labels = u32::from(program.len());

@@ -1,7 +1,7 @@
 -- What unit propagation does to a board: it implies literals at the present level, until every clause is settled or
 -- one is false.
 
-use Rattle.std.specs.Prelude.{ℕ, ◌<◌, ◌≡◌, ◌++◌, List, All}
+use Rattle.std.specs.Prelude.{◌<◌, ◌≡◌, ◌++◌, List, All}
 use Rattle.clause_base.specs.Truth.{lits_of, AreSettled, IsConflict}
 use Rattle.clause_base.specs.declared.clash.Entry.{Entry}
 use Rattle.trail.specs.Assignment.{level_of}

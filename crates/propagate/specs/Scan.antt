@@ -1,6 +1,6 @@
 -- What a look at one clause tells, and what one pass over all clauses does. No public contract cites these.
 
-use Rattle.std.specs.Prelude.{ℕ, ℤ, ◌≡◌, ◌<◌, List, length}
+use Rattle.std.specs.Prelude.{ℤ, ◌≡◌, ◌<◌, List, length}
 use Rattle.clause_base.specs.Truth.{lits_of, IsFalse, IsUnit, IsSettled, AreSettled, IsConflict}
 use Rattle.clause_base.specs.declared.clash.Entry.{Entry}
 use Rattle.propagate.specs.declared.clause_status.Status.{Status}

@@ -1,4 +1,4 @@
-use Rattle.std.proofs.Common.{◌≡◌, ◌≤◌, ap, sym, subst, ◌∙◌, arith, List}
+use Rattle.std.proofs.Common.{◌≤◌, ap, sym, subst, ◌∙◌, arith, List}
 use Rattle.clause_base.specs.Truth.{lits_of, AreSettled}
 use Rattle.clause_base.specs.declared.clash.Entry.{Entry}
 use Rattle.trail.specs.Assignment.{level_of}

@@ -1,4 +1,4 @@
-use Rattle.std.proofs.Common.{◌≡◌, ◌<◌, ◌+◌, ◌++◌, [], ◌∷◌, sym, arith, subst, refl}
+use Rattle.std.proofs.Common.{◌≡◌, ◌+◌, ◌++◌, [], ◌∷◌, sym, arith, subst, refl}
 use Rattle.std.proofs.lemmas.List.Sums.{sum_by_push}
 use Rattle.clause_base.specs.Truth.{lits_of, AreSettled}
 use Rattle.clause_base.specs.declared.clash.Entry.{Entry}

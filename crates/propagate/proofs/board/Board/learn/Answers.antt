@@ -1,4 +1,4 @@
-use Rattle.std.proofs.Common.{◌≡◌, ◌<◌, ℕ, ℤ, List, Result, Ok, Err, OnOk, OnErr, sym, subst}
+use Rattle.std.proofs.Common.{◌<◌, ℕ, Result, Ok, Err, OnOk, OnErr, sym, subst}
 use Rattle.clause_base.specs.Truth.{lits_of, IsSettled}
 use Rattle.trail.specs.Assignment.{level_of}
 use Rattle.propagate.specs.Standing.{Standing, up_to}

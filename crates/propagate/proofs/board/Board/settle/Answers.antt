@@ -1,9 +1,9 @@
-use Rattle.std.proofs.Common.{◌≡◌, ap, ◌∙◌, sym, subst}
+use Rattle.std.proofs.Common.{ap, ◌∙◌, sym, subst}
 use Rattle.clause_base.specs.Clauses.{Clauses}
 use Rattle.trail.specs.Assignment.{level_of}
 use Rattle.propagate.specs.Standing.{Standing, AreSettledBelow}
 use Rattle.propagate.specs.Propagation.{Extends}
-use Rattle.propagate.proofs.Extending.{Extends-trans, level-extends, longer-extends}
+use Rattle.propagate.proofs.Extending.{Extends-trans, level-extends}
 use Rattle.propagate.proofs.SettledLevels.{AreSettledBelow-extends}
 use Rattle.propagate.proofs.board.Board.settle.Goals as goal
 

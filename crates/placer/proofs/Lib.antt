@@ -1,0 +1,11 @@
+pub mod Signs
+pub mod Fronts
+pub mod DecisionRun
+pub mod DecisionLevels
+pub mod NewLine
+pub mod LineCodes
+pub mod FewLines
+pub mod Growing
+pub mod SpentClash
+pub mod SettledModel
+pub mod Refuted

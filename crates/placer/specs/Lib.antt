@@ -1,0 +1,5 @@
+pub mod Learning
+pub mod Decisions
+pub mod Answer
+pub mod Progress
+pub mod Placing
