@@ -1,0 +1,12 @@
+pub mod Text
+pub mod Begun
+pub mod Words
+pub mod Form
+pub mod Cut
+pub mod Fault
+pub mod Fits
+pub mod Marks
+pub mod Reading
+pub mod Fields
+pub mod Pieces
+pub mod Printed

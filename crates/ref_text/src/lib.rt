@@ -1,0 +1,21 @@
+//! The text of a refutation: printing its lines and a clash, and reading lines back in pieces.
+//!
+//! Printed texts are exact. A line's form is said of its whole bytes: its number, literals, 0, hints, 0. A reader that
+//! is fed a text tells each line, or the first that its text alone refuses, wherever the pieces are cut. Whether
+//! the hints of a line lead to a conflict is not asked here: the checker does, line by line.
+#![tactic(auto)]
+
+mod events;
+mod forms;
+pub mod laws;
+mod line_reader;
+mod literals;
+mod printing;
+mod words;
+
+pub use events::{Event, Fed, Why};
+pub use line_reader::LineReader;
+pub use printing::{print_clash, print_line};
+
+#[cfg(test)]
+mod tests;

@@ -1,0 +1,11 @@
+pub mod SignLemmas
+pub mod LookLaws
+pub mod RunLaws
+pub mod DeriveLemmas
+pub mod SoundLemmas
+pub mod CheckLemmas
+pub mod NextLemmas
+pub mod TakenLemmas
+pub mod RefutationLaws
+pub mod PrintedLemmas
+pub mod SizeLemmas

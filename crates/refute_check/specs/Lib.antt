@@ -1,0 +1,6 @@
+pub mod Signed
+pub mod Kept
+pub mod Hints
+pub mod Check
+pub mod Next
+pub mod Taken

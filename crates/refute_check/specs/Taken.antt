@@ -1,0 +1,69 @@
+-- The first bytes of a file, up to a limit, and what they decide.
+
+use Rattle.std.specs.Prelude.{ℕ, ◌+◌, ◌<◌, ◌≤◌, ◌≡◌, Bool, true, false, if◌then◌else◌, IsTrue, nat_le, List, length, take, Option, Some, None, Result, Ok, Err}
+use Rattle.clause_base.specs.Clauses.{Clauses}
+use Rattle.io_base.specs.Loading.{TookMore}
+use Rattle.io_base.specs.Shelf.{ShelfState, CountsTaken}
+use Rattle.ref_text.specs.declared.events.Why.{Why}
+use Rattle.refute_check.specs.Check.{lines_of, progress, check}
+use Rattle.refute_check.specs.declared.checked.Progress.{Progress}
+use Rattle.refute_check.specs.declared.checked.Checked.{Checked}
+use Rattle.refute_check.specs.declared.checked.Checked.TheVariants as checked
+use Rattle.refute_check.specs.declared.checked.CheckFault.{CheckFault}
+use Rattle.refute_check.specs.declared.checked.CheckFault.TheVariants as fault
+
+-- what a shelf that tells its files says of bytes that were taken: the whole file, or its front where it is longer
+abbrev pub IsFront : Option (List ℕ) → ℕ → List ℕ → Bool → Type 0
+IsFront None limit bytes longer = ⊥
+IsFront (Some file) limit bytes false = file ≡ bytes
+IsFront (Some file) limit bytes true = (limit < length file) × (bytes ≡ take limit file)
+
+-- just these bytes were taken, or more than the limit, and these are as many as the limit
+abbrev pub HasTaken : ℕ → ShelfState → ShelfState → List ℕ → Bool → Type 0
+HasTaken limit old new bytes false = CountsTaken old new (length bytes)
+HasTaken limit old new bytes true = (length bytes ≡ limit) × TookMore old new limit
+
+-- bytes of a file that were taken between two states of a shelf, up to a limit, and whether there are more
+pub record IsTaken (old new : ShelfState) (name : List ℕ) (limit : ℕ) (bytes : List ℕ) (longer : Bool) : Type 0 where
+  pub fits : length bytes ≤ limit
+  pub told : IsTrue old.tells → IsFront (old.file name) limit bytes longer
+  pub cause : HasTaken limit old new bytes longer
+
+-- of a text that goes on behind the limit, a line that ends before it may be refused
+abbrev pub refused_of : ℕ → Option Why → Option Checked
+refused_of count None = None
+refused_of count (Some why) = Some (checked.Rejected (count + 1) why)
+
+abbrev pub refusal : Progress → Option Checked
+refusal p = refused_of p.count p.bad
+
+-- what the first bytes decide, where they are all or there are more
+abbrev pub decided : Clauses → List ℕ → Bool → Option Checked
+decided list bytes false = Some (check list bytes)
+decided list bytes true = refusal (progress list 0 false (lines_of bytes))
+
+-- the answer for a file, none where it is longer than the limit and no line that ends within it is refused
+abbrev pub check_file : ℕ → Clauses → List ℕ → Option Checked
+check_file limit list file = if nat_le (length file) limit then decided list file false else decided list (take limit file) true
+
+-- what a shelf that tells its files says of an answer
+abbrev pub Explains : Option (List ℕ) → ℕ → Clauses → Result Checked CheckFault → Type 0
+Explains None limit list (Ok answer) = ⊥
+Explains (Some file) limit list (Ok answer) = check_file limit list file ≡ Some answer
+Explains None limit list (Err fault.TooLong) = ⊥
+Explains (Some file) limit list (Err fault.TooLong) = check_file limit list file ≡ None
+Explains None limit list (Err fault.NoFile) = Unit {0}
+Explains (Some file) limit list (Err fault.NoFile) = ⊥
+Explains file limit list (Err fault.Failed) = Unit {0}
+Explains file limit list (Err fault.OutOfMemory) = Unit {0}
+
+-- what every shelf says of an answer: it is decided by bytes within the limit, just those that were taken or the first of
+-- more
+abbrev pub IsOfBytes : ℕ → Clauses → ShelfState → ShelfState → Result Checked CheckFault → Type 0
+IsOfBytes limit list old new (Ok answer) =
+    (bytes : List ℕ) × (longer : Bool) × (length bytes ≤ limit) × HasTaken limit old new bytes longer × (decided list bytes longer ≡ Some answer)
+IsOfBytes limit list old new (Err fault.TooLong) =
+    (bytes : List ℕ) × (length bytes ≤ limit) × HasTaken limit old new bytes true × (decided list bytes true ≡ None)
+IsOfBytes limit list old new (Err fault.NoFile) = Unit {0}
+IsOfBytes limit list old new (Err fault.Failed) = Unit {0}
+IsOfBytes limit list old new (Err fault.OutOfMemory) = Unit {0}

@@ -1,0 +1,150 @@
+//! Judges the hints of a line: from all its literals false, each hint but the last is unit, and the last is false.
+
+ghost use Rattle.std.specs.Prelude.{ℕ, ◌≡◌, ◌≢◌, ◌<◌, ◌≤◌, ◌↔◌, [], length, All, AllPairs, OnOk, IfOk, map, neg_ℤ, Some, None};
+ghost use Rattle.clause_base.specs.Lit.{var_of};
+ghost use Rattle.clause_base.specs.Clauses.{IsClause};
+ghost use Rattle.clause_base.specs.Refutation.{Derived};
+ghost use Rattle.refute_check.specs.Hints as spec;
+ghost use Rattle.refute_check.specs.Hints.{look_on, clause_at, held_by, held_if, held_after, judged, AreHints};
+ghost use Rattle.refute_check.specs.declared.derivation.Look.TheVariants as look;
+
+use crate::signs::Signs;
+use clause_base::{ClauseList, Lit};
+use ref_text::Why;
+use std::alloc::AllocError;
+
+/// What a clause shows under the literals that hold.
+#[derive(Clone, Copy)]
+pub(crate) enum Look {
+    /// A literal is true, or two are unassigned.
+    Settled,
+    /// This literal is unassigned, and the others are false.
+    Single(Lit),
+    /// Every literal is false.
+    False,
+}
+
+// What is known of a clause after one more literal.
+fn seen_with(lit: Lit, value: Option<bool>, before: Look) -> Look
+    ensures { result ≡ spec.seen_with lit value before }
+{
+    match value {
+        Some(true) => Look::Settled,
+        Some(false) => before,
+        None => match before {
+            Look::False => Look::Single(lit),
+            Look::Single(_) => Look::Settled,
+            Look::Settled => Look::Settled,
+        },
+    }
+}
+
+#[tactic(auto, unfolding(crate::specs::Hints::look_on))]
+fn look_at(signs: &Signs, clause: &[Lit]) -> Look
+    requires { All (λ z. var_of z ≤ signs.now.vars) clause.now }
+    ensures { result ≡ look_on signs.now.held clause.now look.False }
+{
+    let mut seen = Look::False;
+    for lit in clause {
+        seen = seen_with(*lit, signs.value(*lit), seen);
+    }
+    seen
+}
+
+// The clause of a hint.
+fn clause_of(list: &ClauseList, hint: u32) -> &[Lit]
+    requires { (0 < hint) × (hint ≤ length list.now.clauses) }
+    ensures clause { result.now ≡ clause_at list.now.clauses hint }
+    ensures valid { IsClause list.now.vars result.now }
+{
+    list.get(hint)
+}
+
+// Whether a hint that is not the last is unit; its literal then holds too.
+fn hold_unit(list: &ClauseList, signs: &mut Signs, hint: u32) -> Result<bool, AllocError>
+    requires vars { signs.old.vars ≡ list.now.vars }
+    requires hint { (0 < hint) × (hint ≤ length list.now.clauses) }
+    ensures vars { signs.new.vars ≡ signs.old.vars }
+    ensures step { IfOk result (λ unit. held_by list.now.clauses signs.old.held hint ≡ held_if unit signs.new.held) }
+{
+    match look_at(signs, clause_of(list, hint)) {
+        Look::Single(lit) => {
+            signs.hold(lit)?;
+            Ok(true)
+        }
+        Look::Settled => Ok(false),
+        Look::False => Ok(false),
+    }
+}
+
+// Whether the hints before the last are unit one after another; their literals then hold too.
+#[tactic(auto, unfolding(crate::specs::Hints::held_after))]
+fn hold_units(list: &ClauseList, signs: &mut Signs, hints: &[u32]) -> Result<bool, AllocError>
+    requires vars { signs.old.vars ≡ list.now.vars }
+    requires hints { AreHints list.now.clauses hints.now }
+    ensures vars { signs.new.vars ≡ signs.old.vars }
+    ensures steps { IfOk result (λ units. held_after list.now.clauses (Some signs.old.held) hints.now ≡ held_if units signs.new.held) }
+{
+    for hint in hints {
+        if !hold_unit(list, signs, *hint)? {
+            return Ok(false);
+        }
+    }
+    Ok(true)
+}
+
+// Why the hints do not lead to a conflict, or None where they do.
+fn run_hints(list: &ClauseList, signs: &mut Signs, hints: &[u32]) -> Result<Option<Why>, AllocError>
+    requires vars { signs.old.vars ≡ list.now.vars }
+    requires some { 0 < length hints.now }
+    requires hints { AreHints list.now.clauses hints.now }
+    ensures vars { signs.new.vars ≡ signs.old.vars }
+    ensures judged { IfOk result (λ fault. fault ≡ judged list.now.clauses signs.old.held hints.now) }
+{
+    let last = hints.len() - 1;
+    if !hold_units(list, signs, &hints[..last])? {
+        return Ok(Some(Why::NotUnit));
+    }
+    match look_at(signs, clause_of(list, hints[last])) {
+        Look::False => Ok(None),
+        Look::Single(_) => Ok(Some(Why::NotFalse)),
+        Look::Settled => Ok(Some(Why::NotFalse)),
+    }
+}
+
+// The negations of the literals hold.
+fn hold_negated(signs: &mut Signs, clause: &[Lit]) -> Result<(), AllocError>
+    requires none { signs.old.held ≡ [] }
+    requires in_range { All (λ z. var_of z ≤ signs.old.vars) clause.now }
+    requires apart { AllPairs (λ a b. var_of a ≢ var_of b) clause.now }
+    ensures vars { signs.new.vars ≡ signs.old.vars }
+    ensures held { OnOk result (signs.new.held ≡ map neg_ℤ clause.now) }
+{
+    for lit in clause {
+        signs.hold(lit.negated())?;
+    }
+    Ok(())
+}
+
+/// Why a line is not derived, or None where it is. Its literals are of the list's variables, no variable comes
+/// twice, and its hints, at least one, are numbers of clauses.
+pub(crate) fn derive_line(
+    list: &ClauseList,
+    signs: &mut Signs,
+    clause: &[Lit],
+    hints: &[u32],
+) -> Result<Option<Why>, AllocError>
+    requires vars { signs.old.vars ≡ list.now.vars }
+    requires above { All (λ z. 0 < var_of z) clause.now }
+    requires in_range { All (λ z. var_of z ≤ list.now.vars) clause.now }
+    requires apart { AllPairs (λ a b. var_of a ≢ var_of b) clause.now }
+    requires some { 0 < length hints.now }
+    requires hints { AreHints list.now.clauses hints.now }
+    ensures vars { signs.new.vars ≡ signs.old.vars }
+    ensures exact { IfOk result (λ fault. fault ≡ judged list.now.clauses (map neg_ℤ clause.now) hints.now) }
+    ensures derived { IfOk result (λ fault. (fault ≡ None) ↔ Derived list.now (record { clause = clause.now; hints = hints.now })) }
+{
+    signs.clear();
+    hold_negated(signs, clause)?;
+    run_hints(list, signs, hints)
+}

@@ -1,0 +1,21 @@
+//! Checks a refutation: each line of its text is derived from the clauses and the lines before it, or the first that
+//! is not is told.
+//!
+//! The answer for a text is exactly that of `check` in `specs/Check`. A list of clauses that a text refutes
+//! is made true by no truth values; so a program whose clauses are refuted has no legal placement.
+#![tactic(auto)]
+
+mod checked;
+mod derivation;
+mod files;
+pub mod laws;
+mod lines;
+mod signs;
+mod taking;
+
+pub use checked::{CheckFault, Checked};
+pub use files::check_ref;
+pub use lines::check_bytes;
+
+#[cfg(test)]
+mod tests;
