@@ -1,0 +1,5 @@
+mod Streaming
+mod Replying
+mod OtherFiles
+mod Sizes
+pub mod ReadBack

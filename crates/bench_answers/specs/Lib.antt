@@ -1,0 +1,4 @@
+pub mod Running
+pub mod PlacedFiles
+pub mod ReadingBack
+pub mod Placed

@@ -1,0 +1,64 @@
+-- What becomes of a placement: its files are saved, read back and run, in this order (this project's own choice).
+use Rattle.std.specs.Prelude.{ℕ, ◌≡◌, ◌⊎◌, List}
+use Rattle.io_base.specs.Shelf.{ShelfState, GoesOn}
+use Rattle.mcu_jumps.specs.Position.{Position}
+use Rattle.flow_graph.specs.Graph.{Graph}
+use Rattle.saved_files.specs.SavedFile.{SavedFile}
+use Rattle.saved_files.specs.Saving.{IsSaved, FailedAt}
+use Rattle.saved_files.specs.Unsaved.{cannot_save}
+use Rattle.replies.specs.Texts.{no_memory}
+use Rattle.replies.specs.declared.status.Status.{Status}
+use Rattle.replies.specs.declared.status.Status.TheVariants as status
+use Rattle.bench_answers.specs.PlacedFiles.{PlacesFiles}
+use Rattle.bench_answers.specs.ReadingBack.{BackReply, Wants}
+
+-- a file was not saved, and is told
+pub record CannotSave (files : List SavedFile) (old new : ShelfState) (s : Status) (text : List ℕ) : Type 0 where
+  pub place : ℕ
+  pub failed : FailedAt old new files place
+  pub status_is : s ≡ status.ShelfFault
+  pub text_is : text ≡ cannot_save new.last_failed
+
+-- all files were saved, up to a later state in which no file is another
+pub record AreSaved (files : List SavedFile) (old new : ShelfState) : Type 0 where
+  pub after : ShelfState
+  pub saved : IsSaved old after files
+  pub goes_on : GoesOn old after
+  pub same : new.file ≡ after.file
+
+-- all files were saved, and then read back
+pub record SavesAndReplies (out script bytes : List ℕ) (clocks : ℕ) (files : List SavedFile) (old new : ShelfState) (s : Status) (text : List ℕ) : Type 0 where
+  pub all : AreSaved files old new
+  pub back : BackReply out script bytes clocks all.after new s text
+
+-- all files were saved, and then memory was refused
+pub record WantsSaved (files : List SavedFile) (old new : ShelfState) (s : Status) (text : List ℕ) : Type 0 where
+  pub all : AreSaved files old new
+  pub wants : Wants s text
+
+-- memory was refused before the first file was begun, and no file changed
+pub record WantsUnsaved (old new : ShelfState) (s : Status) (text : List ℕ) : Type 0 where
+  pub status_is : s ≡ status.NoMemory
+  pub text_is : text ≡ no_memory
+  pub same : new.file ≡ old.file
+
+-- what becomes of these files, once the first is begun
+abbrev pub FilesAnswer : List ℕ → List ℕ → List ℕ → ℕ → List SavedFile → ShelfState → ShelfState → Status → List ℕ → Type 0
+FilesAnswer out script bytes clocks files old new s text =
+    CannotSave files old new s text
+    ⊎ SavesAndReplies out script bytes clocks files old new s text
+    ⊎ WantsSaved files old new s text
+
+-- the files of the placement were made, and became this
+pub record IsPlaced (out script bytes : List ℕ) (clocks : ℕ) (g : Graph) (place : List Position) (old new : ShelfState) (s : Status) (text : List ℕ) : Type 0 where
+  pub files : List SavedFile
+  pub placed : PlacesFiles out g place files
+  pub answer : FilesAnswer out script bytes clocks files old new s text
+
+-- an answer of this kind, or that memory was refused before the first file was begun
+abbrev pub UnlessUnsaved : ShelfState → ShelfState → (Status → List ℕ → Type 0) → Status → List ℕ → Type 0
+UnlessUnsaved old new answer s text = WantsUnsaved old new s text ⊎ answer s text
+
+-- what becomes of a placement of a program, and of a script's bytes
+abbrev pub PlacedAnswer : List ℕ → List ℕ → List ℕ → ℕ → Graph → List Position → ShelfState → ShelfState → Status → List ℕ → Type 0
+PlacedAnswer out script bytes clocks g place old new = UnlessUnsaved old new (IsPlaced out script bytes clocks g place old new)

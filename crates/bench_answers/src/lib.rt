@@ -1,0 +1,21 @@
+//! What the bench answers: saved images are run, and a placement is saved, read back and run.
+//!
+//! `run_saved` writes the trace of images that were saved, or the reply that refuses the first file that is not had.
+//! `save_and_run` saves a legal placement of a program, reads it back from the shelf and runs it. Over a shelf that tells its
+//! files and is honest, what is read back is what was saved (`saved_is_read_back`), and it follows the symbolic flow for every
+//! script and every number of clocks (`images_follow_the_flow`). Order and texts are this project's own choice.
+#![tactic(auto)]
+
+mod laws;
+mod placed_files;
+mod placed_runs;
+mod saved_runs;
+mod shift_refusal;
+mod traces;
+
+pub use laws::{images_follow_the_flow, saved_is_read_back};
+pub use placed_runs::{PlacedRun, save_and_run};
+pub use saved_runs::run_saved;
+
+#[cfg(test)]
+mod tests;

@@ -1,0 +1,11 @@
+mod Fields
+mod Words
+mod Jumps
+mod Orders
+mod Steps
+mod Runs
+mod Cells
+mod Held
+mod ClockSteps
+mod TextSteps
+mod Addresses

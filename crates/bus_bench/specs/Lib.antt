@@ -1,0 +1,4 @@
+pub mod Chip
+pub mod Matches
+pub mod BadShift
+pub mod Law

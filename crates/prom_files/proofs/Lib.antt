@@ -1,0 +1,2 @@
+pub mod ImageSteps
+pub mod JoinSteps

@@ -1,0 +1,4 @@
+pub mod LayoutStep
+pub mod ImageTexts
+pub mod ImagesStep
+pub mod WordsStep

@@ -1,0 +1,15 @@
+//! The files of microwords: the layout and the PROM images of an output, read from a shelf and joined.
+//!
+//! `load_words` gives the declaration and the words that the files hold, or stops the command with the
+//! reply that refuses the first file that is not had. Names, limits and replies are this project's own
+//! choice.
+#![tactic(auto)]
+
+mod images_step;
+mod layout_step;
+mod words_step;
+
+pub use words_step::{SavedWords, load_words};
+
+#[cfg(test)]
+mod tests;
