@@ -1,2 +1,14 @@
 pub mod FlowSteps
 pub mod NumberSteps
+pub mod CommandWords
+pub mod ToldFiles
+pub mod FewClauses
+pub mod LinesText
+pub mod AcceptedLemmas
+pub mod AcceptedInputs
+pub mod RunAfter
+pub mod MakeSteps
+pub mod MakeOutcomes
+pub mod FewInstrs
+pub mod MakeLaws
+pub mod Promises

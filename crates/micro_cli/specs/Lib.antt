@@ -3,4 +3,14 @@ pub mod Request
 pub mod Mapping
 pub mod Inputs
 pub mod Flowing
+pub mod Telling
+pub mod Saving
+pub mod Keeping
+pub mod Searching
+pub mod Making
+pub mod CheckerText
+pub mod Checking
 pub mod Answer
+pub mod Accepted
+pub mod After
+pub mod Headline

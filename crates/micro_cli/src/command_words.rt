@@ -1,6 +1,7 @@
 //! The words of the command line, read as a command.
-ghost use Rattle.std.specs.Prelude.{◌≡◌, ◌↔◌, map, string_bytes, IsTrue};
-ghost use Rattle.micro_cli.specs.Command.{command_of, is_file_name, is_printable, clocks_in, map_command, trace_by, trace_command};
+ghost use Rattle.std.specs.Prelude.{◌≡◌, ◌≤◌, map, length, string_bytes, IsTrue, IfSome};
+ghost use Rattle.micro_cli.specs.Command.{are_file_names, check_command, command_of, is_file_name, is_printable, clocks_in, conflicts_in, make_by, map_command, trace_by, trace_command};
+ghost use Rattle.micro_cli.specs.Request.{request_view, IsInRange};
 
 use crate::numbers::setting;
 
@@ -15,6 +16,22 @@ pub enum Request<'a> {
         script: &'a str,
         clocks: u32,
     },
+    Run {
+        out: &'a str,
+        script: &'a str,
+        clocks: u32,
+    },
+    Make {
+        src: &'a str,
+        script: &'a str,
+        out: &'a str,
+        clocks: u32,
+        conflicts: u32,
+    },
+    Check {
+        src: &'a str,
+        refutation: &'a str,
+    },
     Unknown,
 }
 
@@ -26,7 +43,8 @@ fn is_printable(bytes: &[u8]) -> bool
 
 // Whether a word may be the name of a file: 1 to 200 printable bytes.
 fn is_file_name(word: &str) -> bool
-    ensures { result ≡ is_file_name word.now }
+    ensures told { result ≡ is_file_name word.now }
+    ensures short { IsTrue result → length word.now ≤ 200 }
 {
     let printable = is_printable(word.as_bytes());
     !word.is_empty() && word.len() <= 200 && printable
@@ -42,15 +60,21 @@ fn clocks_in(word: &str) -> Option<u32>
     }
 }
 
-ghost use Rattle.micro_cli.specs.Request.{request_view};
-
 // The request of a trace, where the number of clocks is given.
 fn trace_request<'a>(word: &str, file: &'a str, script: &'a str, clocks: u32) -> Request<'a>
-    ensures { request_view result ≡ trace_command word.now file.now script.now clocks }
+    requires file_short { length file.now ≤ 200 }
+    requires script_short { length script.now ≤ 200 }
+    ensures command { request_view result ≡ trace_command word.now file.now script.now clocks }
+    ensures in_range { IsInRange result }
 {
     match word {
         "flow" => Request::Flow {
             src: file,
+            script,
+            clocks,
+        },
+        "run" => Request::Run {
+            out: file,
             script,
             clocks,
         },
@@ -60,7 +84,8 @@ fn trace_request<'a>(word: &str, file: &'a str, script: &'a str, clocks: u32) ->
 
 // The request of four words.
 fn four_words<'a>(word: &str, file: &'a str, script: &'a str, last: &str) -> Request<'a>
-    ensures { request_view result ≡ trace_by word.now file.now script.now (clocks_in last.now) }
+    ensures command { request_view result ≡ trace_by word.now file.now script.now (clocks_in last.now) }
+    ensures in_range { IsInRange result }
 {
     let named = is_file_name(file) && is_file_name(script);
     match clocks_in(last) {
@@ -69,9 +94,60 @@ fn four_words<'a>(word: &str, file: &'a str, script: &'a str, last: &str) -> Req
     }
 }
 
+// The conflicts of a word `conflicts=B`.
+fn conflicts_in(word: &str) -> Option<u32>
+    ensures value { result ≡ conflicts_in word.now }
+    ensures few { IfSome result (λ conflicts. conflicts ≤ 1000000) }
+{
+    match setting("conflicts=", 1_000_000, word) {
+        Some(conflicts) => Some(conflicts as u32),
+        None => None,
+    }
+}
+
+fn are_file_names(src: &str, script: &str, out: &str) -> bool
+    ensures told { result ≡ are_file_names src.now script.now out.now }
+    ensures short { IsTrue result → (length src.now ≤ 200) × (length script.now ≤ 200) × (length out.now ≤ 200) }
+{
+    is_file_name(src) && is_file_name(script) && is_file_name(out)
+}
+
+// The request of a `make`, where the numbers are given.
+fn make_request<'a>(
+    word: &str,
+    src: &'a str,
+    script: &'a str,
+    out: &'a str,
+    clocks: Option<u32>,
+    conflicts: Option<u32>,
+) -> Request<'a>
+    requires few { IfSome conflicts (λ some. some ≤ 1000000) }
+    ensures command { request_view result ≡ make_by word.now src.now script.now out.now clocks conflicts }
+    ensures in_range { IsInRange result }
+{
+    let Some(clocks) = clocks else {
+        return Request::Unknown;
+    };
+    let Some(conflicts) = conflicts else {
+        return Request::Unknown;
+    };
+    if word == "make" && are_file_names(src, script, out) {
+        Request::Make {
+            src,
+            script,
+            out,
+            clocks,
+            conflicts,
+        }
+    } else {
+        Request::Unknown
+    }
+}
+
 // The request of two words.
 fn two_words<'a>(word: &str, src: &'a str) -> Request<'a>
-    ensures { request_view result ≡ map_command word.now src.now }
+    ensures command { request_view result ≡ map_command word.now src.now }
+    ensures in_range { IsInRange result }
 {
     if word == "map" && is_file_name(src) {
         Request::Map { src }
@@ -80,17 +156,39 @@ fn two_words<'a>(word: &str, src: &'a str) -> Request<'a>
     }
 }
 
+// The request of three words.
+fn three_words<'a>(word: &str, src: &'a str, refutation: &'a str) -> Request<'a>
+    ensures command { request_view result ≡ check_command word.now src.now refutation.now }
+    ensures in_range { IsInRange result }
+{
+    if word == "check" && is_file_name(src) && is_file_name(refutation) {
+        Request::Check { src, refutation }
+    } else {
+        Request::Unknown
+    }
+}
+
 /// The request of these words.
 pub fn request_of(words: &[String]) -> Request<'_>
-    ensures { request_view result ≡ command_of (map string_bytes words.now) }
+    ensures command { request_view result ≡ command_of (map string_bytes words.now) }
+    ensures in_range { IsInRange result }
 {
-    match words {
-        [word, src] => two_words(word.as_str(), src.as_str()),
-        [word, file, script, last] => four_words(
-            word.as_str(),
-            file.as_str(),
-            script.as_str(),
-            last.as_str(),
+    match words.len() {
+        2 => two_words(words[0].as_str(), words[1].as_str()),
+        3 => three_words(words[0].as_str(), words[1].as_str(), words[2].as_str()),
+        4 => four_words(
+            words[0].as_str(),
+            words[1].as_str(),
+            words[2].as_str(),
+            words[3].as_str(),
+        ),
+        6 => make_request(
+            words[0].as_str(),
+            words[1].as_str(),
+            words[2].as_str(),
+            words[3].as_str(),
+            clocks_in(words[4].as_str()),
+            conflicts_in(words[5].as_str()),
         ),
         _ => Request::Unknown,
     }

@@ -4,11 +4,19 @@
 //! program promises; `main` hands it the words, the files of the system and standard output.
 #![tactic(auto)]
 
+mod answer_files;
+mod answering;
+mod check_command;
+mod checker_texts;
 mod command_words;
 mod flow_command;
 mod inputs;
+mod laws;
+mod make_command;
 mod map_command;
 mod numbers;
+mod search_texts;
+mod searches;
 mod top_call;
 
 use io_base::{FileShelf, StdSink};

@@ -2,15 +2,16 @@
 ghost use Rattle.std.specs.Prelude.{◌≡◌, map, string_bytes};
 ghost use Rattle.io_base.specs.Shelf.{GoesOn};
 ghost use Rattle.io_base.specs.Sink.{Flows};
+ghost use Rattle.replies.specs.Ending.{Ends};
 ghost use Rattle.micro_cli.specs.Command.{command_of};
 ghost use Rattle.micro_cli.specs.Answer.{Answer};
-ghost use Rattle.replies.specs.Ending.{Ends};
+ghost use Rattle.micro_cli.specs.Keeping.{Keeps};
+ghost use Rattle.micro_cli.specs.Headline.{SavesImages, ReadsBack, SavesRefutation, ChecksOut, SpendsBudget, Decides, ChangesNothing};
 
-use crate::command_words::{Request, request_of};
-use crate::flow_command::flow_command;
-use crate::map_command::map_command;
+use crate::answering::answer;
+use crate::laws::answers_keep_the_promises;
 use io_base::{Shelf, Sink};
-use replies::{Status, say};
+use replies::Status;
 use std::alloc::Global;
 
 /// Answers the words of the command line: reads files from the shelf and writes the answer's text to `out`.
@@ -20,19 +21,30 @@ use std::alloc::Global;
 pub fn top<S: Shelf, K: Sink>(alloc: Global, words: &[String], shelf: &mut S, out: &mut K) -> Status
     ensures ends { Ends (Answer (command_of (map string_bytes words.now)) (S.state shelf.old) (S.state shelf.new))
         (K.state out.old) (K.state out.new) result }
-    ensures no_file_changes { (S.state shelf.new).file ≡ (S.state shelf.old).file }
+
+    // What `make` promises over a shelf that tells its files and a sink that tells its bytes.
+    ensures images { SavesImages (command_of (map string_bytes words.now))
+        (S.state shelf.old) (S.state shelf.new) (K.state out.old) (K.state out.new) result }
+    ensures read_back { ReadsBack (command_of (map string_bytes words.now))
+        (S.state shelf.old) (S.state shelf.new) (K.state out.old) (K.state out.new) result }
+    ensures refutation { SavesRefutation (command_of (map string_bytes words.now))
+        (S.state shelf.old) (S.state shelf.new) (K.state out.old) (K.state out.new) result }
+    ensures checking { ChecksOut (command_of (map string_bytes words.now))
+        (S.state shelf.old) (S.state shelf.new) (K.state out.old) (K.state out.new) result }
+    ensures budget { SpendsBudget (command_of (map string_bytes words.now))
+        (S.state shelf.old) (S.state shelf.new) (K.state out.old) (K.state out.new) result }
+    ensures decides { Decides (command_of (map string_bytes words.now))
+        (S.state shelf.old) (S.state shelf.new) (K.state out.old) (K.state out.new) result }
+
+    // How the files and the sink are left.
+    ensures keeps { Keeps (command_of (map string_bytes words.now)) (S.state shelf.old) (S.state shelf.new) }
+    ensures nothing { ChangesNothing (S.state shelf.old) (S.state shelf.new) result }
     ensures goes_on { GoesOn (S.state shelf.old) (S.state shelf.new) }
     ensures flows { Flows (K.state out.old) (K.state out.new) }
 {
-    match request_of(words) {
-        Request::Map { src } => map_command(alloc, shelf, out, src),
-        Request::Flow {
-            src,
-            script,
-            clocks,
-        } => flow_command(alloc, shelf, out, src, script, clocks),
-        Request::Unknown => say(out, Status::Words, b"refused words\n"),
-    }
+    let status = answer(alloc, words, shelf, out);
+    answers_keep_the_promises();
+    status
 }
 
 #[cfg(test)]

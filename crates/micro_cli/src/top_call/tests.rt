@@ -1,16 +1,18 @@
 //! Whole runs over shelves and sinks in memory: that they succeed with ample memory, and what they print.
 
+mod fetch_execute;
 mod flows;
+mod makes;
 mod maps;
 mod outside;
+mod pin_refusals;
 mod sources;
 
 use super::top;
-use io_base::{MemShelf, MemSink, OutOfMemory, Shelf};
+use crate::map_command::map_command;
+use io_base::{MemShelf, MemSink, OutOfMemory, Shelf, Sink};
 use replies::Status;
 use std::alloc::Global;
-use std::process::Abort;
-use std::test::Fail;
 
 /// A shelf with the file `s`.
 fn shelf_with(alloc: Global, bytes: &[u8]) -> Result<MemShelf, OutOfMemory> {
@@ -19,32 +21,44 @@ fn shelf_with(alloc: Global, bytes: &[u8]) -> Result<MemShelf, OutOfMemory> {
     Ok(shelf)
 }
 
-/// What these words end with and print.
-fn answer_to<S: Shelf>(
+/// A shelf with the files `s` and `t`.
+fn shelf_with_script(alloc: Global, source: &[u8], script: &[u8]) -> Result<MemShelf, OutOfMemory> {
+    let mut shelf = shelf_with(alloc, source)?;
+    shelf.put_file("t", script)?;
+    Ok(shelf)
+}
+
+/// What these words end with.
+fn end_of<S: Shelf, K: Sink>(
     alloc: Global,
     shelf: &mut S,
+    out: &mut K,
     words: &[&str],
-) -> Result<(Status, MemSink), OutOfMemory> {
+) -> Result<Status, OutOfMemory> {
     let mut owned = Vec::new(alloc);
     for word in words {
         owned.push(String::from_str(alloc, word)?)?;
     }
-    let mut out = MemSink::new(alloc);
-    let status = top(alloc, owned.as_slice(), shelf, &mut out);
-    Ok((status, out))
+    Ok(top(alloc, owned.as_slice(), shelf, out))
 }
 
-/// Checks what `map s` ends with and prints.
-fn check_map(
-    rt: &impl Abort,
+/// Whether these words end with this status and print this text.
+fn answers<S: Shelf>(
     alloc: Global,
-    source: &[u8],
+    shelf: &mut S,
+    words: &[&str],
     status: Status,
     text: &[u8],
-) -> Result<(), Fail> {
+) -> Result<bool, OutOfMemory> {
+    let mut out = MemSink::new(alloc);
+    let ended = end_of(alloc, shelf, &mut out, words)?;
+    Ok(ended == status && out.bytes() == text)
+}
+
+/// Whether the map of a source ends with this status and prints this text.
+fn has_map(alloc: Global, source: &[u8], status: Status, text: &[u8]) -> Result<bool, OutOfMemory> {
     let mut shelf = shelf_with(alloc, source)?;
-    let (ended, out) = answer_to(alloc, &mut shelf, &["map", "s"])?;
-    assert_eq!(rt; out.bytes(), text);
-    assert_eq!(rt; ended, status);
-    Ok(())
+    let mut out = MemSink::new(alloc);
+    let ended = map_command(alloc, &mut shelf, &mut out, "s");
+    Ok(ended == status && out.bytes() == text)
 }

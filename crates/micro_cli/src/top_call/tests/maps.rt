@@ -1,13 +1,43 @@
 //! Sources that have a map.
 
-use super::check_map;
-use super::sources::{THREE_CELLS, THREE_CELLS_MAP};
+use super::has_map;
+use super::sources::{THREE_CELLS, THREE_CELLS_MAP, pins_in_rows, self_loops};
+use io_base::OutOfMemory;
 use replies::Status;
+use std::alloc::Global;
 use std::test::Fail;
 
 #[test]
 fn three_cells_are_mapped(rt: HostRuntime) -> Result<(), Fail> {
-    check_map(&rt, rt.alloc(), THREE_CELLS, Status::Done, THREE_CELLS_MAP)
+    assert!(rt; has_map(rt.alloc(), THREE_CELLS, Status::Done, THREE_CELLS_MAP)?);
+    Ok(())
+}
+
+#[test]
+fn masks_that_the_k_bits_give_are_mapped(rt: HostRuntime) -> Result<(), Fail> {
+    let source = b"slices 8\nkbus 2\nstart A\npin A 0 0\nA: fn 3 1 R2 0x00FF | goto A\n";
+    assert!(rt; has_map(rt.alloc(), source, Status::Done, b"A 0.0 00 JCC 0\n")?);
+    Ok(())
+}
+
+/// The map of so many instructions that go to themselves, row after row: each by JCC to its own row.
+fn map_in_rows(alloc: Global, count: u32) -> Result<Vec<u8>, OutOfMemory> {
+    let mut text = Vec::new(alloc);
+    for number in 0..count {
+        let (row, col) = (number / 16, number % 16);
+        let line = format!(in alloc; "L{number} {row}.{col} 0{row} JCC {row}\n")?;
+        text.extend_from_slice(line.as_bytes())?;
+    }
+    Ok(text)
+}
+
+#[test]
+fn a_full_source_is_mapped(rt: HostRuntime) -> Result<(), Fail> {
+    let pins = pins_in_rows(rt.alloc(), 128)?;
+    let source = self_loops(rt.alloc(), 128, &pins)?;
+    let text = map_in_rows(rt.alloc(), 128)?;
+    assert!(rt; has_map(rt.alloc(), &source, Status::Done, &text)?);
+    Ok(())
 }
 
 /// `examples/all_statements.src`: each statement, a trap, masks, fields and flag functions.
@@ -125,3 +155,9 @@ NORTH 5.15 22 JZR 2
 WAIT 6.15 2f JZR 15
 REST 0.15 22 JZR 2
 ";
+
+#[test]
+fn each_statement_is_mapped(rt: HostRuntime) -> Result<(), Fail> {
+    assert!(rt; has_map(rt.alloc(), ALL_STATEMENTS, Status::Done, ALL_STATEMENTS_MAP)?);
+    Ok(())
+}

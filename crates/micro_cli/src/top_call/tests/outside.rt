@@ -1,23 +1,130 @@
 //! What the words, the shelf and the sink decide.
-use super::sources::THREE_CELLS;
-use super::{answer_to, shelf_with};
+ghost use Rattle.std.specs.Prelude.{◌≤◌, length};
+ghost use Rattle.io_base.specs.Shelf.{ShelfState};
+
+use super::sources::{THREE_CELLS, THREE_CELLS_MAP};
+use super::{answers, end_of, shelf_with};
+use io_base::{CallKind, Failed, MemShelf, MemSink, OutOfMemory, Shelf};
 use replies::Status;
+use std::alloc::Global;
 use std::test::Fail;
 
+/// Words that are no command.
+const NO_COMMANDS: [&[&str]; 5] = [
+    &[],
+    &["map"],
+    &["Map", "s"],
+    &["map", "s", "s"],
+    &["map", "s s"],
+];
+
 #[test]
-fn answers_words_that_are_no_command(rt: HostRuntime) -> Result<(), Fail> {
-    let table: [&[&str]; 5] = [
-        &[],
-        &["map"],
-        &["Map", "s"],
-        &["map", "s", "s"],
-        &["map", "s s"],
-    ];
-    for words in table {
+fn words_that_are_no_command_are_refused(rt: HostRuntime) -> Result<(), Fail> {
+    for words in &NO_COMMANDS {
         let mut shelf = shelf_with(rt.alloc(), THREE_CELLS)?;
-        let (ended, out) = answer_to(rt.alloc(), &mut shelf, words)?;
-        assert_eq!(rt; ended, Status::Words);
-        assert_eq!(rt; out.bytes(), b"refused words\n".as_slice());
+        let text = b"refused words\n";
+        assert!(rt; answers(rt.alloc(), &mut shelf, words, Status::Words, text)?);
     }
+    Ok(())
+}
+
+#[test]
+fn an_absent_file_is_refused(rt: HostRuntime) -> Result<(), Fail> {
+    let mut shelf = MemShelf::new(rt.alloc());
+    let text = b"refused s NoFile\n";
+    assert!(rt; answers(rt.alloc(), &mut shelf, &["map", "s"], Status::Input, text)?);
+    Ok(())
+}
+
+/// Whether `map s` of three cells ends so where this read fails, and the file stands.
+fn maps_unless_read_fails(
+    alloc: Global,
+    read: u32,
+    status: Status,
+    text: &[u8],
+) -> Result<bool, OutOfMemory> {
+    let mut shelf = shelf_with(alloc, THREE_CELLS)?;
+    shelf.fail(CallKind::Read, read)?;
+    let answers = answers(alloc, &mut shelf, &["map", "s"], status, text)?;
+    Ok(answers && shelf.file("s") == Some(THREE_CELLS))
+}
+
+/// The source is read by one read, and by one more that finds its end.
+const READS: [(u32, Status, &[u8]); 3] = [
+    (1, Status::ShelfFault, b"cannot read s\n"),
+    (2, Status::ShelfFault, b"cannot read s\n"),
+    (3, Status::Done, THREE_CELLS_MAP),
+];
+
+#[test]
+fn each_failing_read_is_told(rt: HostRuntime) -> Result<(), Fail> {
+    for (read, status, text) in &READS {
+        assert!(rt; maps_unless_read_fails(rt.alloc(), *read, *status, text)?);
+    }
+    Ok(())
+}
+
+/// Whether `map s` of three cells ends so where this write fails.
+fn maps_unless_write_fails(
+    alloc: Global,
+    write: u32,
+    status: Status,
+    text: &[u8],
+) -> Result<bool, OutOfMemory> {
+    let mut shelf = shelf_with(alloc, THREE_CELLS)?;
+    let mut out = MemSink::new(alloc);
+    out.fail(write)?;
+    let ended = end_of(alloc, &mut shelf, &mut out, &["map", "s"])?;
+    Ok(ended == status && out.bytes() == text)
+}
+
+#[test]
+fn a_failing_write_is_told(rt: HostRuntime) -> Result<(), Fail> {
+    // The map is written by one write.
+    let alloc = rt.alloc();
+    assert!(rt; maps_unless_write_fails(alloc, 1, Status::SinkFault, b"")?);
+    assert!(rt; maps_unless_write_fails(alloc, 2, Status::Done, THREE_CELLS_MAP)?);
+    Ok(())
+}
+
+/// A shelf whose reads give one byte at a time.
+#[derive(Drop)]
+struct OneByteShelf {
+    files: MemShelf,
+}
+
+impl Shelf for OneByteShelf {
+    ghost use Rattle.io_base.specs.MemShelf.{shelf_of};
+
+    ghost state = { λ shelf. shelf_of shelf.files };
+
+    fn read_at(&mut self, name: &str, at: u64, buf: &mut [u8]) -> Result<Option<usize>, Failed> {
+        let room = buf.len().min(1);
+        self.files.read_at(name, at, &mut buf[..room])
+    }
+
+    fn create(&mut self, name: &str) -> Result<(), Failed> {
+        self.files.create(name)
+    }
+
+    fn append(&mut self, name: &str, piece: &[u8]) -> Result<(), Failed> {
+        self.files.append(name, piece)
+    }
+}
+
+#[test]
+fn short_reads_answer_the_same(rt: HostRuntime) -> Result<(), Fail> {
+    let files = shelf_with(rt.alloc(), THREE_CELLS)?;
+    let mut shelf = OneByteShelf { files };
+    let words = ["map", "s"];
+    assert!(rt;
+        answers(
+            rt.alloc(),
+            &mut shelf,
+            &words,
+            Status::Done,
+            THREE_CELLS_MAP
+        )?
+    );
     Ok(())
 }

@@ -1,0 +1,448 @@
+-- What each outcome of `make` promises.
+use Rattle.std.proofs.Common.{ℕ, zero, suc, ◌≡◌, ◌≢◌, ◌≤◌, ◌<◌, ◌⊎◌, inl, inr, List, [], ◌∷◌, ◌++◌, length, map, Option, Some, Ok, slice_get, IsTrue, refl, sym, ap, ◌∙◌, subst, arith}
+use Rattle.std.specs.Option.{option_map}
+use Rattle.std.proofs.lemmas.Option.{slice_get-map}
+use Rattle.io_base.specs.Causes.{Rose}
+use Rattle.io_base.specs.Shelf.{ShelfState, GoesOn, IsTold}
+use Rattle.io_base.specs.Sink.{SinkState}
+use Rattle.mcu_jumps.specs.Position.{Position}
+use Rattle.bpnf.specs.Image.{Image}
+use Rattle.bpnf.specs.Canonical.{image_text}
+use Rattle.field_decl.specs.LayoutText.{layout_text}
+use Rattle.flow_graph.specs.Graph.{Graph}
+use Rattle.bus_script.specs.Script.{BusScript, script_of}
+use Rattle.bus_script.specs.ScriptFits.{IsScriptFor}
+use Rattle.flow_sim.specs.Flow.{flow_trace}
+use Rattle.bus_bench.specs.Chip.{chip_trace}
+use Rattle.bus_bench.specs.Matches.{Matches}
+use Rattle.clause_words.specs.Clauses.{clauses_of}
+use Rattle.ref_text.specs.Text.{refutation_text, part_text}
+use Rattle.saved_files.specs.SavedFile.{SavedFile}
+use Rattle.saved_files.specs.FileNames.{refutation_name, undecided_name}
+use Rattle.saved_files.specs.FilesOfAnswers.{file_of, placed_files, refuted_files, undecided_files}
+use Rattle.saved_files.specs.Saving.{IsSaved}
+use Rattle.saved_files.proofs.OneFileLemmas.{told_goes_on}
+use Rattle.saved_files.proofs.ComposingStates.{goes_on_both, tells_goes_on}
+use Rattle.saved_files.proofs.StandingFiles.{map_stands, layout_stands, image_stands}
+use Rattle.replies.specs.Ending.{Ends}
+use Rattle.replies.specs.declared.status.Status.{Status}
+use Rattle.replies.specs.declared.status.Status.TheVariants as status
+use Rattle.bench_answers.specs.PlacedFiles.{PlacesFiles}
+use Rattle.bench_answers.specs.ReadingBack.{placed_line, BackReply, CannotReadBack, IsPlacedRun}
+use Rattle.bench_answers.specs.Placed.{AreSaved}
+use Rattle.micro_cli.specs.Telling.{refuted_line, undecided_line}
+use Rattle.micro_cli.specs.Saving.{SavesAndTells, SavesOrCannot}
+use Rattle.refute_check.specs.declared.checked.Checked.TheVariants as checked
+use Rattle.replies.specs.FileStep.{CannotRead}
+use Rattle.replies.specs.SourceStep.{source_limit}
+use Rattle.micro_cli.specs.Accepted.{Holds, IsAccepted}
+use Rattle.micro_cli.specs.CheckerText.{TellsAnswer}
+use Rattle.micro_cli.specs.Checking.{RefutationReply, CheckReply}
+use Rattle.micro_cli.specs.After.{AfterReply}
+use Rattle.micro_cli.specs.Making.{MakeAnswer}
+use Rattle.micro_cli.specs.Headline.{Writes, SavesPlacement, IsMade, RepliesAs, IsRefuted, IsUndecided, IsFaultless, IsDecision}
+use Rattle.micro_cli.proofs.AcceptedInputs.{RefusesOrFails, inputs_status, inputs_unread, source_unread, source_read, starts_accepted, starts_go_on, starts_same, file_at, accepted_once}
+use Rattle.micro_cli.proofs.MakeOutcomes.{Start, Found, Refuted, Undecided, Outcome, lacks_inputs, lacks_memory, lacks_file, found, refuted, undecided, outcome_of, Wrote, ends_wrote}
+use Rattle.micro_cli.proofs.FewInstrs.{few_instrs, short_refutation}
+use Rattle.micro_cli.proofs.AcceptedLemmas.{accepted}
+use Rattle.micro_cli.proofs.RunAfter.{RunsOrFails, back_is_run}
+
+-- ---- the laws of what was saved, as the crate below gives them
+
+abbrev pub SavedIsReadBack : Type 0
+SavedIsReadBack =
+    (out script bytes : List ℕ) (clocks : ℕ) (g : Graph) (place : List Position) (files : List SavedFile) (said : BusScript) (old new : ShelfState) (s : Status) (text : List ℕ)
+    → IsTold old → (placed : PlacesFiles out g place files) → script_of g.decl.slices bytes ≡ Ok said → (all : AreSaved files old new) → BackReply out script bytes clocks all.after new s text
+    → CannotReadBack all.after new s text ⊎ IsPlacedRun g.decl placed.words said clocks s text
+
+abbrev pub ImagesFollow : Type 0
+ImagesFollow =
+    (out : List ℕ) (g : Graph) (place : List Position) (files : List SavedFile) (script : BusScript) (n : ℕ)
+    → (placed : PlacesFiles out g place files) → IsScriptFor g.decl.slices script → Matches place (chip_trace placed.words g.decl script n) (flow_trace g script n)
+
+-- ---- statuses differ
+
+abbrev IsDone : Status → Type 0
+IsDone status.Done = Unit {0}
+IsDone s = ⊥
+
+abbrev IsInput : Status → Type 0
+IsInput status.Input = Unit {0}
+IsInput s = ⊥
+
+abbrev IsRefusal : Status → Type 0
+IsRefusal status.Refuted = Unit {0}
+IsRefusal s = ⊥
+
+abbrev IsRefusedWords : Status → Type 0
+IsRefusedWords status.Words = Unit {0}
+IsRefusedWords s = ⊥
+
+abbrev IsSpent : Status → Type 0
+IsSpent status.Undecided = Unit {0}
+IsSpent s = ⊥
+
+-- ---- the placement
+
+told_start : (src script : List ℕ) (old : ShelfState) (start : Start src script old) → IsTold old → IsTold start.mid
+told_start src script old start told = told_goes_on old start.mid (starts_go_on src script old start.mid start.g start.bytes start.starts) told
+
+-- what was found is read back, or a read fails
+found_back : SavedIsReadBack → (src script out : List ℕ) (clocks : ℕ) (old new : ShelfState) (s : Status) (text : List ℕ) → IsTold old → (f : Found src script out clocks old new s text)
+    → CannotReadBack f.all.after new s text ⊎ IsPlacedRun f.start.g.decl f.placed.words f.start.starts.read.said clocks s text
+found_back law src script out clocks old new s text told f =
+    let accepted = starts_accepted src script old f.start.mid f.start.g f.start.bytes told.tells f.start.starts in
+    law out script f.start.bytes clocks f.start.g f.place f.files f.start.starts.read.said f.start.mid new s text (told_start src script old f.start told) f.placed accepted.says f.all f.back
+
+-- the files of the placement stand at exit
+found_saved : (src script out : List ℕ) (clocks : ℕ) (old new : ShelfState) (s : Status) (text : List ℕ) → IsTold old → (f : Found src script out clocks old new s text)
+    → SavesPlacement out f.start.g f.place f.placed.words new.file
+found_saved src script out clocks old new s text told f =
+    let P : (List ℕ → Option (List ℕ)) → Type 0 = λ files. SavesPlacement out f.start.g f.place f.placed.words files in
+    subst P (sym f.all.same) (record {
+      legal = f.placed.legal;
+      map_bytes = f.placed.map_bytes;
+      map_is = f.placed.map_is;
+      map_saved = map_stands f.start.mid f.all.after out f.placed.map_bytes (layout_text f.start.g.decl) (map image_text f.placed.images) mid_told saved;
+      layout_saved = layout_stands f.start.mid f.all.after out f.placed.map_bytes (layout_text f.start.g.decl) (map image_text f.placed.images) mid_told saved;
+      words_are = f.placed.words_are;
+      images = f.placed.images;
+      images_are = f.placed.images_are;
+      images_saved = λ number image at. image_stands f.start.mid f.all.after out f.placed.map_bytes (layout_text f.start.g.decl) (map image_text f.placed.images) mid_told saved number (image_text image) (text_at number image at);
+    })
+  where
+    mid_told : IsTold f.start.mid
+    mid_told = told_start src script old f.start told
+
+    saved : IsSaved f.start.mid f.all.after (placed_files out f.placed.map_bytes (layout_text f.start.g.decl) (map image_text f.placed.images))
+    saved = let P : List SavedFile → Type 0 = λ fs. IsSaved f.start.mid f.all.after fs in subst P f.placed.files_are f.all.saved
+
+    text_at : (number : ℕ) (image : Image) → slice_get f.placed.images number ≡ Some image → slice_get (map image_text f.placed.images) number ≡ Some (image_text image)
+    text_at number image at = slice_get-map image_text f.placed.images number ∙ ap (option_map image_text) at
+
+-- a placement was made
+found_made : SavedIsReadBack → ImagesFollow → (src script out : List ℕ) (clocks : ℕ) (old new : ShelfState) (before after : SinkState) (s : Status) (text : List ℕ) → IsTold old → s ≡ status.Done
+    → Writes before after text → Found src script out clocks old new s text → IsMade src script out clocks old new before after
+found_made law follow src script out clocks old new before after s text told done written f = go (found_back law src script out clocks old new s text told f)
+  where
+    go : CannotReadBack f.all.after new s text ⊎ IsPlacedRun f.start.g.decl f.placed.words f.start.starts.read.said clocks s text → IsMade src script out clocks old new before after
+    go (inl unread) = absurd (subst IsDone (sym done ∙ unread.status_is) tt)
+    go (inr run) = record {
+      g = f.start.g;
+      bytes = f.start.bytes;
+      said = f.start.starts.read.said;
+      accepted = starts_accepted src script old f.start.mid f.start.g f.start.bytes told.tells f.start.starts;
+      place = f.place;
+      words = f.placed.words;
+      saved = found_saved src script out clocks old new s text told f;
+      written = written ∙ ap (λ (t : List ℕ). before.bytes ++ t) run.text_is;
+      follows = λ other n fits. follow out f.start.g f.place f.files other n f.placed fits;
+    }
+
+pub done_made : SavedIsReadBack → ImagesFollow → (src script out : List ℕ) (clocks conflicts : ℕ) (old new : ShelfState) (before after : SinkState) (s : Status) → IsTold old → IsTrue before.tells → s ≡ status.Done
+    → Ends (MakeAnswer src script out clocks conflicts old new) before after s → IsMade src script out clocks old new before after
+done_made law follow src script out clocks conflicts old new before after s told tells done ends = go (outcome_of src script out clocks conflicts old new s wrote.text wrote.is)
+  where
+    no_fault : s ≡ status.SinkFault → ⊥
+    no_fault fault = subst IsDone (sym done ∙ fault) tt
+
+    wrote : Wrote (MakeAnswer src script out clocks conflicts old new) before after s
+    wrote = ends_wrote (MakeAnswer src script out clocks conflicts old new) before after s tells no_fault ends
+
+    not_had : RefusesOrFails s → IsMade src script out clocks old new before after
+    not_had (inl refuses) = absurd (subst IsDone (sym done ∙ refuses) tt)
+    not_had (inr fails) = absurd (subst IsDone (sym done ∙ fails) tt)
+
+    go : Outcome src script out clocks conflicts old new s wrote.text → IsMade src script out clocks old new before after
+    go (lacks_inputs lacks) = not_had (inputs_status src script old new s wrote.text lacks.reply)
+    go (lacks_memory wants) = absurd (subst IsDone (sym done ∙ wants) tt)
+    go (lacks_file lacks) = absurd (subst IsDone (sym done ∙ lacks.status_is) tt)
+    go (found f) = found_made law follow src script out clocks old new before after s wrote.text told done wrote.written f
+    go (refuted r) = absurd (subst IsDone (sym done ∙ r.status_is) tt)
+    go (undecided u) = absurd (subst IsDone (sym done ∙ u.status_is) tt)
+
+-- ---- what was read back
+
+-- the run of the files as they stood once all were saved
+found_runs : (src script out : List ℕ) (clocks : ℕ) (old new : ShelfState) (s : Status) (text : List ℕ) → IsTrue old.tells → (f : Found src script out clocks old new s text)
+    → RunsOrFails f.all.after.file out script f.start.bytes clocks s text
+found_runs src script out clocks old new s text tells f =
+    let goes_on = goes_on_both old f.start.mid f.all.after (starts_go_on src script old f.start.mid f.start.g f.start.bytes f.start.starts) f.all.goes_on in
+    back_is_run out script f.start.bytes clocks f.all.after new s text (tells_goes_on old f.all.after goes_on tells) f.back
+
+-- the run of the files at exit
+found_run : (src script out : List ℕ) (clocks : ℕ) (old new : ShelfState) (s : Status) (text : List ℕ) (g : Graph) (bytes : List ℕ) (said : BusScript) → IsTrue old.tells
+    → IsAccepted src script old.file g bytes said → Found src script out clocks old new s text → RunsOrFails new.file out script bytes clocks s text
+found_run src script out clocks old new s text g bytes said tells accepted f =
+    let P : (List ℕ → Option (List ℕ)) → Type 0 = λ files. RunsOrFails files out script bytes clocks s text in
+    let Q : List ℕ → Type 0 = λ b. RunsOrFails f.all.after.file out script b clocks s text in
+    let start_accepted = starts_accepted src script old f.start.mid f.start.g f.start.bytes tells f.start.starts in
+    let one = accepted_once src script old.file g f.start.g bytes f.start.bytes said f.start.starts.read.said accepted start_accepted in
+    subst P (sym f.all.same) (subst Q one.bytes_are (found_runs src script out clocks old new s text tells f))
+
+pub done_read_back : (src script out : List ℕ) (clocks conflicts : ℕ) (old new : ShelfState) (before after : SinkState) (s : Status) (g : Graph) (bytes : List ℕ) (said : BusScript) → IsTrue old.tells → IsTrue before.tells
+    → IsAccepted src script old.file g bytes said → s ≡ status.Done → Ends (MakeAnswer src script out clocks conflicts old new) before after s → RepliesAs out script bytes clocks new before after placed_line status.Done
+done_read_back src script out clocks conflicts old new before after s g bytes said tells sink_tells accepted done ends = go (outcome_of src script out clocks conflicts old new s wrote.text wrote.is)
+  where
+    no_fault : s ≡ status.SinkFault → ⊥
+    no_fault fault = subst IsDone (sym done ∙ fault) tt
+
+    wrote : Wrote (MakeAnswer src script out clocks conflicts old new) before after s
+    wrote = ends_wrote (MakeAnswer src script out clocks conflicts old new) before after s sink_tells no_fault ends
+
+    run : RunsOrFails new.file out script bytes clocks s wrote.text → RepliesAs out script bytes clocks new before after placed_line status.Done
+    run (inl refused) = absurd (subst IsDone (sym done ∙ refused.status_is) tt)
+    run (inr (inl done_run)) =
+        let P : Status → Type 0 = λ x. AfterReply new.file out script bytes clocks x done_run.run in
+        (done_run.run, subst P done done_run.reply, wrote.written ∙ ap (λ (t : List ℕ). before.bytes ++ t) done_run.text_is)
+    run (inr (inr fails)) = absurd (subst IsDone (sym done ∙ fails) tt)
+
+    go : Outcome src script out clocks conflicts old new s wrote.text → RepliesAs out script bytes clocks new before after placed_line status.Done
+    go (lacks_inputs lacks) =
+        let unread = inputs_unread src script old new g bytes said s wrote.text tells accepted lacks.reply in
+        absurd (subst IsDone (sym done ∙ unread.status_is) tt)
+    go (lacks_memory wants) = absurd (subst IsDone (sym done ∙ wants) tt)
+    go (lacks_file lacks) = absurd (subst IsDone (sym done ∙ lacks.status_is) tt)
+    go (found f) = run (found_run src script out clocks old new s wrote.text g bytes said tells accepted f)
+    go (refuted r) = absurd (subst IsDone (sym done ∙ r.status_is) tt)
+    go (undecided u) = absurd (subst IsDone (sym done ∙ u.status_is) tt)
+
+pub input_read_back : (src script out : List ℕ) (clocks conflicts : ℕ) (old new : ShelfState) (before after : SinkState) (s : Status) (g : Graph) (bytes : List ℕ) (said : BusScript) → IsTrue old.tells → IsTrue before.tells
+    → IsAccepted src script old.file g bytes said → s ≡ status.Input → Ends (MakeAnswer src script out clocks conflicts old new) before after s → RepliesAs out script bytes clocks new before after [] status.Input
+input_read_back src script out clocks conflicts old new before after s g bytes said tells sink_tells accepted input ends = go (outcome_of src script out clocks conflicts old new s wrote.text wrote.is)
+  where
+    no_fault : s ≡ status.SinkFault → ⊥
+    no_fault fault = subst IsInput (sym input ∙ fault) tt
+
+    wrote : Wrote (MakeAnswer src script out clocks conflicts old new) before after s
+    wrote = ends_wrote (MakeAnswer src script out clocks conflicts old new) before after s sink_tells no_fault ends
+
+    run : RunsOrFails new.file out script bytes clocks s wrote.text → RepliesAs out script bytes clocks new before after [] status.Input
+    run (inl refused) =
+        let P : Status → Type 0 = λ x. AfterReply new.file out script bytes clocks x wrote.text in
+        (wrote.text, subst P input refused.reply, wrote.written)
+    run (inr (inl done_run)) = absurd (subst IsInput (sym input ∙ done_run.status_is) tt)
+    run (inr (inr fails)) = absurd (subst IsInput (sym input ∙ fails) tt)
+
+    go : Outcome src script out clocks conflicts old new s wrote.text → RepliesAs out script bytes clocks new before after [] status.Input
+    go (lacks_inputs lacks) =
+        let unread = inputs_unread src script old new g bytes said s wrote.text tells accepted lacks.reply in
+        absurd (subst IsInput (sym input ∙ unread.status_is) tt)
+    go (lacks_memory wants) = absurd (subst IsInput (sym input ∙ wants) tt)
+    go (lacks_file lacks) = absurd (subst IsInput (sym input ∙ lacks.status_is) tt)
+    go (found f) = run (found_run src script out clocks old new s wrote.text g bytes said tells accepted f)
+    go (refuted r) = absurd (subst IsInput (sym input ∙ r.status_is) tt)
+    go (undecided u) = absurd (subst IsInput (sym input ∙ u.status_is) tt)
+
+-- ---- what stays
+
+-- inputs that are refused change no file
+pub input_changes_nothing : SavedIsReadBack → (src script out : List ℕ) (clocks conflicts : ℕ) (old new : ShelfState) (s : Status) (text : List ℕ) → IsTold old → s ≡ status.Input
+    → MakeAnswer src script out clocks conflicts old new s text → new.file ≡ old.file
+input_changes_nothing law src script out clocks conflicts old new s text told input answer = go (outcome_of src script out clocks conflicts old new s text answer)
+  where
+    back : (f : Found src script out clocks old new s text) → CannotReadBack f.all.after new s text ⊎ IsPlacedRun f.start.g.decl f.placed.words f.start.starts.read.said clocks s text → new.file ≡ old.file
+    back f (inl unread) = absurd (subst IsInput (sym input ∙ unread.status_is) tt)
+    back f (inr run) = absurd (subst IsInput (sym input ∙ run.status_is) tt)
+
+    go : Outcome src script out clocks conflicts old new s text → new.file ≡ old.file
+    go (lacks_inputs lacks) = lacks.same
+    go (lacks_memory wants) = absurd (subst IsInput (sym input ∙ wants) tt)
+    go (lacks_file lacks) = absurd (subst IsInput (sym input ∙ lacks.status_is) tt)
+    go (found f) = back f (found_back law src script out clocks old new s text told f)
+    go (refuted r) = absurd (subst IsInput (sym input ∙ r.status_is) tt)
+    go (undecided u) = absurd (subst IsInput (sym input ∙ u.status_is) tt)
+
+-- words that are a command do not end as none
+words_change_nothing : SavedIsReadBack → (src script out : List ℕ) (clocks conflicts : ℕ) (old new : ShelfState) (s : Status) (text : List ℕ) → IsTold old → s ≡ status.Words
+    → MakeAnswer src script out clocks conflicts old new s text → new.file ≡ old.file
+words_change_nothing law src script out clocks conflicts old new s text told is answer = go (outcome_of src script out clocks conflicts old new s text answer)
+  where
+    back : (f : Found src script out clocks old new s text) → CannotReadBack f.all.after new s text ⊎ IsPlacedRun f.start.g.decl f.placed.words f.start.starts.read.said clocks s text → new.file ≡ old.file
+    back f (inl unread) = absurd (subst IsRefusedWords (sym is ∙ unread.status_is) tt)
+    back f (inr run) = absurd (subst IsRefusedWords (sym is ∙ run.status_is) tt)
+
+    go : Outcome src script out clocks conflicts old new s text → new.file ≡ old.file
+    go (lacks_inputs lacks) = lacks.same
+    go (lacks_memory wants) = absurd (subst IsRefusedWords (sym is ∙ wants) tt)
+    go (lacks_file lacks) = absurd (subst IsRefusedWords (sym is ∙ lacks.status_is) tt)
+    go (found f) = back f (found_back law src script out clocks old new s text told f)
+    go (refuted r) = absurd (subst IsRefusedWords (sym is ∙ r.status_is) tt)
+    go (undecided u) = absurd (subst IsRefusedWords (sym is ∙ u.status_is) tt)
+
+pub nothing_changed : SavedIsReadBack → (src script out : List ℕ) (clocks conflicts : ℕ) (old new : ShelfState) (before after : SinkState) (s : Status) → IsTold old → (s ≡ status.Words) ⊎ (s ≡ status.Input)
+    → Ends (MakeAnswer src script out clocks conflicts old new) before after s → new.file ≡ old.file
+nothing_changed law src script out clocks conflicts old new before after s told (inl is) (inl ended) = words_change_nothing law src script out clocks conflicts old new s ended.0 told is ended.1
+nothing_changed law src script out clocks conflicts old new before after s told (inr is) (inl ended) = input_changes_nothing law src script out clocks conflicts old new s ended.0 told is ended.1
+nothing_changed law src script out clocks conflicts old new before after s told (inl is) (inr failed) = absurd (subst IsRefusedWords (sym is ∙ failed.0) tt)
+nothing_changed law src script out clocks conflicts old new before after s told (inr is) (inr failed) = absurd (subst IsInput (sym is ∙ failed.0) tt)
+
+-- ---- every accepted source
+
+pub accepted_decides : SavedIsReadBack → (src script out : List ℕ) (clocks conflicts : ℕ) (old new : ShelfState) (before after : SinkState) (s : Status) (g : Graph) (bytes : List ℕ) (said : BusScript) → IsTold old
+    → IsAccepted src script old.file g bytes said → IsFaultless old new before after → Ends (MakeAnswer src script out clocks conflicts old new) before after s → IsDecision s
+accepted_decides law src script out clocks conflicts old new before after s g bytes said told accepted faultless (inr failed) = absurd (faultless.sink failed.1)
+accepted_decides law src script out clocks conflicts old new before after s g bytes said told accepted faultless (inl ended) = go (outcome_of src script out clocks conflicts old new s ended.0 ended.1)
+  where
+    back : (f : Found src script out clocks old new s ended.0) → CannotReadBack f.all.after new s ended.0 ⊎ IsPlacedRun f.start.g.decl f.placed.words f.start.starts.read.said clocks s ended.0 → IsDecision s
+    back f (inl unread) =
+        let goes_on = goes_on_both old f.start.mid f.all.after (starts_go_on src script old f.start.mid f.start.g f.start.bytes f.start.starts) f.all.goes_on in
+        absurd (faultless.shelf (omega (arith, goes_on.later, unread.rose)))
+    back f (inr run) = inl run.status_is
+
+    go : Outcome src script out clocks conflicts old new s ended.0 → IsDecision s
+    go (lacks_inputs lacks) = absurd (faultless.shelf (inputs_unread src script old new g bytes said s ended.0 told.tells accepted lacks.reply).rose)
+    go (lacks_memory wants) = inr (inr (inr wants))
+    go (lacks_file lacks) = absurd (faultless.shelf lacks.rose)
+    go (found f) = back f (found_back law src script out clocks old new s ended.0 told f)
+    go (refuted r) = inr (inl r.status_is)
+    go (undecided u) = inr (inr (inl u.status_is))
+
+-- ---- the one file of a search that found no placement
+
+-- all files of other names stay
+only_file : (name bytes : List ℕ) (old new : ShelfState) → IsSaved old new (file_of name bytes ∷ []) → (other : List ℕ) → other ≢ name → new.file other ≡ old.file other
+only_file name bytes old new saved other differs = saved.others other none
+  where
+    none : (i : ℕ) (x : SavedFile) → i < 1 → slice_get (file_of name bytes ∷ []) i ≡ Some x → x.name ≢ other
+    none zero x less at same = let is : x ≡ file_of name bytes = cc in differs (sym same ∙ ap (λ (f : SavedFile). f.name) is)
+    none (suc i) x less at same = omega (arith, less)
+
+started_file : (src script : List ℕ) (old new : ShelfState) (start : Start src script old) (name bytes : List ℕ) → IsSaved start.mid new (file_of name bytes ∷ [])
+    → (other : List ℕ) → other ≢ name → new.file other ≡ old.file other
+started_file src script old new start name bytes saved other differs =
+    only_file name bytes start.mid new saved other differs
+    ∙ file_at old start.mid other (starts_same src script old start.mid start.g start.bytes start.starts)
+
+-- ---- refutations
+
+refuted_made : (src script out : List ℕ) (conflicts : ℕ) (old new : ShelfState) (before after : SinkState) (s : Status) (text : List ℕ) → IsTold old → Writes before after text
+    → (r : Refuted src script out conflicts old new s text) → SavesAndTells (refuted_files out (refutation_text (length (clauses_of r.start.g)) r.answer.lines)) status.Refuted (refuted_line (length r.answer.lines)) r.start.mid new s text
+    → IsRefuted src script out conflicts old new before after
+refuted_made src script out conflicts old new before after s text told written r saved = record {
+  g = r.start.g;
+  bytes = r.start.bytes;
+  said = r.start.starts.read.said;
+  accepted = accepted;
+  lines = r.answer.lines;
+  refutes = r.answer.refutes;
+  few = r.answer.few;
+  saved = saved.saved.whole (told_start src script old r.start told) 0 (file_of (refutation_name out) (refutation_text (length (clauses_of r.start.g)) r.answer.lines)) (omega arith) refl;
+  others = started_file src script old new r.start (refutation_name out) (refutation_text (length (clauses_of r.start.g)) r.answer.lines) saved.saved;
+  written = written ∙ ap (λ (t : List ℕ). before.bytes ++ t) saved.text_is;
+  checked_by = r.answer.accepted;
+  numbered = r.answer.numbered;
+  short = λ budget. short_refutation accepted.source r.start.g (length r.answer.lines) conflicts (length (refutation_text (length (clauses_of r.start.g)) r.answer.lines)) accepted.meant r.answer.few r.answer.short budget;
+  none_legal = r.answer.none_legal;
+}
+  where
+    accepted : IsAccepted src script old.file r.start.g r.start.bytes r.start.starts.read.said
+    accepted = starts_accepted src script old r.start.mid r.start.g r.start.bytes told.tells r.start.starts
+
+pub refuted_stands : (src script out : List ℕ) (clocks conflicts : ℕ) (old new : ShelfState) (before after : SinkState) (s : Status) → IsTold old → IsTrue before.tells → s ≡ status.Refuted
+    → Ends (MakeAnswer src script out clocks conflicts old new) before after s → IsRefuted src script out conflicts old new before after
+refuted_stands src script out clocks conflicts old new before after s told tells is ends = go (outcome_of src script out clocks conflicts old new s wrote.text wrote.is)
+  where
+    no_fault : s ≡ status.SinkFault → ⊥
+    no_fault fault = subst IsRefusal (sym is ∙ fault) tt
+
+    wrote : Wrote (MakeAnswer src script out clocks conflicts old new) before after s
+    wrote = ends_wrote (MakeAnswer src script out clocks conflicts old new) before after s tells no_fault ends
+
+    not_had : RefusesOrFails s → IsRefuted src script out conflicts old new before after
+    not_had (inl refuses) = absurd (subst IsRefusal (sym is ∙ refuses) tt)
+    not_had (inr fails) = absurd (subst IsRefusal (sym is ∙ fails) tt)
+
+    not_run : (f : Found src script out clocks old new s wrote.text) → RunsOrFails f.all.after.file out script f.start.bytes clocks s wrote.text → IsRefuted src script out conflicts old new before after
+    not_run f (inl refused) = absurd (subst IsRefusal (sym is ∙ refused.status_is) tt)
+    not_run f (inr (inl done_run)) = absurd (subst IsRefusal (sym is ∙ done_run.status_is) tt)
+    not_run f (inr (inr fails)) = absurd (subst IsRefusal (sym is ∙ fails) tt)
+
+    saved : (r : Refuted src script out conflicts old new s wrote.text) → SavesOrCannot (refuted_files out (refutation_text (length (clauses_of r.start.g)) r.answer.lines)) status.Refuted (refuted_line (length r.answer.lines)) r.start.mid new s wrote.text → IsRefuted src script out conflicts old new before after
+    saved r (inl cannot) = absurd (subst IsRefusal (sym is ∙ cannot.status_is) tt)
+    saved r (inr tells_it) = refuted_made src script out conflicts old new before after s wrote.text told wrote.written r tells_it
+
+    go : Outcome src script out clocks conflicts old new s wrote.text → IsRefuted src script out conflicts old new before after
+    go (lacks_inputs lacks) = not_had (inputs_status src script old new s wrote.text lacks.reply)
+    go (lacks_memory wants) = absurd (subst IsRefusal (sym is ∙ wants) tt)
+    go (lacks_file lacks) = absurd (subst IsRefusal (sym is ∙ lacks.status_is) tt)
+    go (found f) = not_run f (found_runs src script out clocks old new s wrote.text told.tells f)
+    go (refuted r) = saved r r.answer.answer
+    go (undecided u) = absurd (subst IsRefusal (sym is ∙ u.status_is) tt)
+
+-- the check of a saved refutation is done, unless a fault is counted
+pub refuted_checks : (src script out : List ℕ) (conflicts : ℕ) (old new start end : ShelfState) (before after : SinkState) (t : Status) (text : List ℕ)
+    → IsRefuted src script out conflicts old new before after → conflicts ≤ 1000000 → src ≢ refutation_name out → IsTrue start.tells → start.file ≡ new.file
+    → CheckReply src (refutation_name out) start end t text → (t ≡ status.Done) ⊎ Rose start.faults end.faults
+refuted_checks src script out conflicts old new start end before after t text r budget differs tells same reply = go reply
+  where
+    held : Holds start.file src source_limit r.accepted.source
+    held = record {
+      there = file_at new start src same ∙ r.others src differs ∙ r.accepted.source_held.there;
+      fits = r.accepted.source_held.fits;
+    }
+
+    checked_reply : (mid : ShelfState) → GoesOn start mid → mid.file ≡ start.file → RefutationReply (refutation_name out) r.g mid end t text → (t ≡ status.Done) ⊎ Rose start.faults end.faults
+    checked_reply mid goes_on kept told = by (accepted (refutation_name out) r.g r.lines mid end t text (tells_goes_on start mid goes_on tells)
+        (file_at start mid (refutation_name out) kept ∙ file_at new start (refutation_name out) same ∙ r.saved) (omega (arith, r.short budget)) r.refutes
+        (omega (arith, few_instrs r.accepted.source r.g r.accepted.meant)) r.numbered told)
+      where
+        by : TellsAnswer (checked.Refutes (length r.lines)) t text ⊎ CannotRead (refutation_name out) mid end t text → (t ≡ status.Done) ⊎ Rose start.faults end.faults
+        by (inl answer) = inl answer.status_is
+        by (inr unread) = inr (omega (arith, goes_on.later, unread.rose))
+
+    go : CheckReply src (refutation_name out) start end t text → (t ≡ status.Done) ⊎ Rose start.faults end.faults
+    go (inl source) = inr (source_unread src start end r.accepted.source r.g t text tells held r.accepted.meant source).rose
+    go (inr checks) =
+        let P : Graph → Type 0 = λ g. RefutationReply (refutation_name out) g checks.mid end t text in
+        let is = source_read src start checks.mid r.accepted.source r.g checks.g tells held r.accepted.meant checks.source in
+        checked_reply checks.mid checks.source.file.goes_on checks.source.file.same (subst P is checks.reply)
+
+-- ---- spent budgets
+
+undecided_made : (src script out : List ℕ) (conflicts : ℕ) (old new : ShelfState) (before after : SinkState) (s : Status) (text : List ℕ) → IsTold old → Writes before after text
+    → (u : Undecided src script out conflicts old new s text) → SavesAndTells (undecided_files out (part_text (length (clauses_of u.start.g)) u.answer.lines u.answer.clash)) status.Undecided (undecided_line conflicts) u.start.mid new s text
+    → IsUndecided src script out conflicts old new before after
+undecided_made src script out conflicts old new before after s text told written u saved = record {
+  g = u.start.g;
+  bytes = u.start.bytes;
+  said = u.start.starts.read.said;
+  accepted = starts_accepted src script old u.start.mid u.start.g u.start.bytes told.tells u.start.starts;
+  lines = u.answer.lines;
+  clash = u.answer.clash;
+  spent = u.answer.spent;
+  saved = saved.saved.whole (told_start src script old u.start told) 0 (file_of (undecided_name out) (part_text (length (clauses_of u.start.g)) u.answer.lines u.answer.clash)) (omega arith) refl;
+  others = started_file src script old new u.start (undecided_name out) (part_text (length (clauses_of u.start.g)) u.answer.lines u.answer.clash) saved.saved;
+  written = written ∙ ap (λ (t : List ℕ). before.bytes ++ t) saved.text_is;
+}
+
+pub undecided_stands : (src script out : List ℕ) (clocks conflicts : ℕ) (old new : ShelfState) (before after : SinkState) (s : Status) → IsTold old → IsTrue before.tells → s ≡ status.Undecided
+    → Ends (MakeAnswer src script out clocks conflicts old new) before after s → IsUndecided src script out conflicts old new before after
+undecided_stands src script out clocks conflicts old new before after s told tells is ends = go (outcome_of src script out clocks conflicts old new s wrote.text wrote.is)
+  where
+    no_fault : s ≡ status.SinkFault → ⊥
+    no_fault fault = subst IsSpent (sym is ∙ fault) tt
+
+    wrote : Wrote (MakeAnswer src script out clocks conflicts old new) before after s
+    wrote = ends_wrote (MakeAnswer src script out clocks conflicts old new) before after s tells no_fault ends
+
+    not_had : RefusesOrFails s → IsUndecided src script out conflicts old new before after
+    not_had (inl refuses) = absurd (subst IsSpent (sym is ∙ refuses) tt)
+    not_had (inr fails) = absurd (subst IsSpent (sym is ∙ fails) tt)
+
+    not_run : (f : Found src script out clocks old new s wrote.text) → RunsOrFails f.all.after.file out script f.start.bytes clocks s wrote.text → IsUndecided src script out conflicts old new before after
+    not_run f (inl refused) = absurd (subst IsSpent (sym is ∙ refused.status_is) tt)
+    not_run f (inr (inl done_run)) = absurd (subst IsSpent (sym is ∙ done_run.status_is) tt)
+    not_run f (inr (inr fails)) = absurd (subst IsSpent (sym is ∙ fails) tt)
+
+    saved : (u : Undecided src script out conflicts old new s wrote.text) → SavesOrCannot (undecided_files out (part_text (length (clauses_of u.start.g)) u.answer.lines u.answer.clash)) status.Undecided (undecided_line conflicts) u.start.mid new s wrote.text → IsUndecided src script out conflicts old new before after
+    saved u (inl cannot) = absurd (subst IsSpent (sym is ∙ cannot.status_is) tt)
+    saved u (inr tells_it) = undecided_made src script out conflicts old new before after s wrote.text told wrote.written u tells_it
+
+    go : Outcome src script out clocks conflicts old new s wrote.text → IsUndecided src script out conflicts old new before after
+    go (lacks_inputs lacks) = not_had (inputs_status src script old new s wrote.text lacks.reply)
+    go (lacks_memory wants) = absurd (subst IsSpent (sym is ∙ wants) tt)
+    go (lacks_file lacks) = absurd (subst IsSpent (sym is ∙ lacks.status_is) tt)
+    go (found f) = not_run f (found_runs src script out clocks old new s wrote.text told.tells f)
+    go (refuted r) = absurd (subst IsSpent (sym is ∙ r.status_is) tt)
+    go (undecided u) = saved u u.answer.answer
