@@ -2,7 +2,7 @@
 use Rattle.std.proofs.Common.{ℕ, ◌≡◌, inl, inr, List, ◌++◌, length, Some, refl, sym, ap, ◌∙◌, subst, slice_get}
 use Rattle.std.proofs.lemmas.Option.{slice_get_within}
 use Rattle.io_base.specs.Causes.{Rose}
-use Rattle.io_base.specs.Shelf.{ShelfState, GoesOn}
+use Rattle.io_base.specs.Shelf.{ShelfState, GoesOn, CountsNoRead}
 use Rattle.io_base.specs.Sink.{SinkState, Flows, Adds, AddsPrefix}
 use Rattle.mcu_jumps.specs.Position.{Position}
 use Rattle.field_decl.specs.Declaration.{Declaration}
@@ -100,12 +100,12 @@ shift_told out decl words cell first s text reply = record { cell = cell; first 
 
 -- ---- the files
 
-pub saved_ends : (out script bytes : List ℕ) (clocks : ℕ) (files : List SavedFile) (old mid new : ShelfState) → IsSaved old mid files → GoesOn old mid → new.file ≡ mid.file
+pub saved_ends : (out script bytes : List ℕ) (clocks : ℕ) (files : List SavedFile) (old mid new : ShelfState) → IsSaved old mid files → CountsNoRead old mid → GoesOn old mid → new.file ≡ mid.file
     → (s : Status) (text : List ℕ) → OrWants (BackReply out script bytes clocks mid new) s text → UnlessUnsaved old new (FilesAnswer out script bytes clocks files old new) s text
-saved_ends out script bytes clocks files old mid new saved goes_on same s text (inl back) =
-    inr (inr (inl (record { all = record { after = mid; saved = saved; goes_on = goes_on; same = same }; back = back })))
-saved_ends out script bytes clocks files old mid new saved goes_on same s text (inr wants) =
-    inr (inr (inr (record { all = record { after = mid; saved = saved; goes_on = goes_on; same = same }; wants = wants })))
+saved_ends out script bytes clocks files old mid new saved no_read goes_on same s text (inl back) =
+    inr (inr (inl (record { all = record { after = mid; saved = saved; no_read = no_read; goes_on = goes_on; same = same }; back = back })))
+saved_ends out script bytes clocks files old mid new saved no_read goes_on same s text (inr wants) =
+    inr (inr (inr (record { all = record { after = mid; saved = saved; no_read = no_read; goes_on = goes_on; same = same }; wants = wants })))
 
 pub unsaved_ends : (out script bytes : List ℕ) (clocks : ℕ) (files : List SavedFile) (old new : ShelfState) (place : ℕ) (file : SavedFile) (text : List ℕ) → FailedAt old new files place → slice_get files place ≡ Some file
     → text ≡ cannot_save file.name → UnlessUnsaved old new (FilesAnswer out script bytes clocks files old new) status.ShelfFault text

@@ -1,6 +1,6 @@
 -- What becomes of a placement: its files are saved, read back and run, in this order (this project's own choice).
 use Rattle.std.specs.Prelude.{ℕ, ◌≡◌, ◌⊎◌, List}
-use Rattle.io_base.specs.Shelf.{ShelfState, GoesOn}
+use Rattle.io_base.specs.Shelf.{ShelfState, GoesOn, CountsNoRead}
 use Rattle.mcu_jumps.specs.Position.{Position}
 use Rattle.flow_graph.specs.Graph.{Graph}
 use Rattle.saved_files.specs.SavedFile.{SavedFile}
@@ -19,10 +19,11 @@ pub record CannotSave (files : List SavedFile) (old new : ShelfState) (s : Statu
   pub status_is : s ≡ status.ShelfFault
   pub text_is : text ≡ cannot_save new.last_failed
 
--- all files were saved, up to a later state in which no file is another
+-- all files were saved, without a read, up to a later state in which no file is another
 pub record AreSaved (files : List SavedFile) (old new : ShelfState) : Type 0 where
   pub after : ShelfState
   pub saved : IsSaved old after files
+  pub no_read : CountsNoRead old after
   pub goes_on : GoesOn old after
   pub same : new.file ≡ after.file
 

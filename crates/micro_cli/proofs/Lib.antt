@@ -11,4 +11,5 @@ pub mod MakeSteps
 pub mod MakeOutcomes
 pub mod FewInstrs
 pub mod MakeLaws
+pub mod UnplacedLaws
 pub mod Promises

@@ -1,9 +1,9 @@
--- What each outcome of `make` promises.
-use Rattle.std.proofs.Common.{ℕ, zero, suc, ◌≡◌, ◌≢◌, ◌≤◌, ◌<◌, ◌⊎◌, inl, inr, List, [], ◌∷◌, ◌++◌, length, map, Option, Some, Ok, slice_get, IsTrue, refl, sym, ap, ◌∙◌, subst, arith}
+-- What each outcome of `make` promises where a placement was found, and of every accepted source.
+use Rattle.std.proofs.Common.{ℕ, zero, suc, ◌≡◌, ◌≢◌, ◌≤◌, ◌<◌, ◌+◌, ◌⊎◌, inl, inr, List, [], ◌∷◌, ◌++◌, length, map, Option, None, Some, Ok, slice_get, IsTrue, sym, ap, ◌∙◌, subst, arith}
+use Rattle.std.proofs.lemmas.List.{length-map}
 use Rattle.std.specs.Option.{option_map}
 use Rattle.std.proofs.lemmas.Option.{slice_get-map}
-use Rattle.io_base.specs.Causes.{Rose}
-use Rattle.io_base.specs.Shelf.{ShelfState, GoesOn, IsTold}
+use Rattle.io_base.specs.Shelf.{ShelfState, IsTold}
 use Rattle.io_base.specs.Sink.{SinkState}
 use Rattle.mcu_jumps.specs.Position.{Position}
 use Rattle.bpnf.specs.Image.{Image}
@@ -15,11 +15,9 @@ use Rattle.bus_script.specs.ScriptFits.{IsScriptFor}
 use Rattle.flow_sim.specs.Flow.{flow_trace}
 use Rattle.bus_bench.specs.Chip.{chip_trace}
 use Rattle.bus_bench.specs.Matches.{Matches}
-use Rattle.clause_words.specs.Clauses.{clauses_of}
-use Rattle.ref_text.specs.Text.{refutation_text, part_text}
+use Rattle.prom_split.specs.Images.{image_count}
 use Rattle.saved_files.specs.SavedFile.{SavedFile}
-use Rattle.saved_files.specs.FileNames.{refutation_name, undecided_name}
-use Rattle.saved_files.specs.FilesOfAnswers.{file_of, placed_files, refuted_files, undecided_files}
+use Rattle.saved_files.specs.FilesOfAnswers.{image_files, placed_files}
 use Rattle.saved_files.specs.Saving.{IsSaved}
 use Rattle.saved_files.proofs.OneFileLemmas.{told_goes_on}
 use Rattle.saved_files.proofs.ComposingStates.{goes_on_both, tells_goes_on}
@@ -30,20 +28,12 @@ use Rattle.replies.specs.declared.status.Status.TheVariants as status
 use Rattle.bench_answers.specs.PlacedFiles.{PlacesFiles}
 use Rattle.bench_answers.specs.ReadingBack.{placed_line, BackReply, CannotReadBack, IsPlacedRun}
 use Rattle.bench_answers.specs.Placed.{AreSaved}
-use Rattle.micro_cli.specs.Telling.{refuted_line, undecided_line}
-use Rattle.micro_cli.specs.Saving.{SavesAndTells, SavesOrCannot}
-use Rattle.refute_check.specs.declared.checked.Checked.TheVariants as checked
-use Rattle.replies.specs.FileStep.{CannotRead}
-use Rattle.replies.specs.SourceStep.{source_limit}
-use Rattle.micro_cli.specs.Accepted.{Holds, IsAccepted}
-use Rattle.micro_cli.specs.CheckerText.{TellsAnswer}
-use Rattle.micro_cli.specs.Checking.{RefutationReply, CheckReply}
+use Rattle.micro_cli.specs.Accepted.{IsAccepted}
 use Rattle.micro_cli.specs.After.{AfterReply}
 use Rattle.micro_cli.specs.Making.{MakeAnswer}
-use Rattle.micro_cli.specs.Headline.{Writes, SavesPlacement, IsMade, RepliesAs, IsRefuted, IsUndecided, IsFaultless, IsDecision}
-use Rattle.micro_cli.proofs.AcceptedInputs.{RefusesOrFails, inputs_status, inputs_unread, source_unread, source_read, starts_accepted, starts_go_on, starts_same, file_at, accepted_once}
-use Rattle.micro_cli.proofs.MakeOutcomes.{Start, Found, Refuted, Undecided, Outcome, lacks_inputs, lacks_memory, lacks_file, found, refuted, undecided, outcome_of, Wrote, ends_wrote}
-use Rattle.micro_cli.proofs.FewInstrs.{few_instrs, short_refutation}
+use Rattle.micro_cli.specs.Headline.{IsNoFileName, Writes, SavesPlacement, IsMade, RepliesAs, IsFaultless, IsDecision}
+use Rattle.micro_cli.proofs.AcceptedInputs.{RefusesOrFails, inputs_status, inputs_unread, starts_accepted, starts_go_on, starts_same, file_at, accepted_once}
+use Rattle.micro_cli.proofs.MakeOutcomes.{Start, Found, Outcome, lacks_inputs, lacks_memory, lacks_file, found, refuted, undecided, outcome_of, Wrote, ends_wrote}
 use Rattle.micro_cli.proofs.AcceptedLemmas.{accepted}
 use Rattle.micro_cli.proofs.RunAfter.{RunsOrFails, back_is_run}
 
@@ -70,21 +60,13 @@ abbrev IsInput : Status → Type 0
 IsInput status.Input = Unit {0}
 IsInput s = ⊥
 
-abbrev IsRefusal : Status → Type 0
-IsRefusal status.Refuted = Unit {0}
-IsRefusal s = ⊥
-
 abbrev IsRefusedWords : Status → Type 0
 IsRefusedWords status.Words = Unit {0}
 IsRefusedWords s = ⊥
 
-abbrev IsSpent : Status → Type 0
-IsSpent status.Undecided = Unit {0}
-IsSpent s = ⊥
-
 -- ---- the placement
 
-told_start : (src script : List ℕ) (old : ShelfState) (start : Start src script old) → IsTold old → IsTold start.mid
+pub told_start : (src script : List ℕ) (old : ShelfState) (start : Start src script old) → IsTold old → IsTold start.mid
 told_start src script old start told = told_goes_on old start.mid (starts_go_on src script old start.mid start.g start.bytes start.starts) told
 
 -- what was found is read back, or a read fails
@@ -120,6 +102,37 @@ found_saved src script out clocks old new s text told f =
     text_at : (number : ℕ) (image : Image) → slice_get f.placed.images number ≡ Some image → slice_get (map image_text f.placed.images) number ≡ Some (image_text image)
     text_at number image at = slice_get-map image_text f.placed.images number ∙ ap (option_map image_text) at
 
+abbrev name_at : Option SavedFile → List ℕ
+name_at None = []
+name_at (Some x) = x.name
+
+-- the files of the images have the names of their numbers
+no_image_of : (out name : List ℕ) (count number : ℕ) (images : List (List ℕ)) (i : ℕ) (x : SavedFile) → IsNoFileName out count name → number + length images ≤ count
+    → slice_get (image_files out number images) i ≡ Some x → x.name ≢ name
+no_image_of out name count number [] i x other room at = cc
+no_image_of out name count number (image ∷ images) zero x other room at = λ e. other.no_image number (omega (arith, room)) (sym (ap name_at at ∙ e))
+no_image_of out name count number (image ∷ images) (suc i) x other room at = no_image_of out name count (number + 1) images i x other (omega (arith, room)) at
+
+none_of_files : (out name map_bytes layout : List ℕ) (count : ℕ) (images : List (List ℕ)) (i : ℕ) (x : SavedFile) → IsNoFileName out count name → length images ≤ count
+    → slice_get (placed_files out map_bytes layout images) i ≡ Some x → x.name ≢ name
+none_of_files out name map_bytes layout count images zero x other room at = λ e. other.no_map (sym (ap name_at at ∙ e))
+none_of_files out name map_bytes layout count images (suc zero) x other room at = λ e. other.no_layout (sym (ap name_at at ∙ e))
+none_of_files out name map_bytes layout count images (suc (suc i)) x other room at = no_image_of out name count 0 images i x other (omega (arith, room)) at
+
+-- all files of other names stay
+found_others : (src script out : List ℕ) (clocks : ℕ) (old new : ShelfState) (s : Status) (text : List ℕ) → (f : Found src script out clocks old new s text)
+    → (name : List ℕ) → IsNoFileName out (image_count f.start.g.decl) name → new.file name ≡ old.file name
+found_others src script out clocks old new s text f name other =
+    file_at f.all.after new name f.all.same
+    ∙ f.all.saved.others name none
+    ∙ file_at old f.start.mid name (starts_same src script old f.start.mid f.start.g f.start.bytes f.start.starts)
+  where
+    none : (i : ℕ) (x : SavedFile) → i < length f.files → slice_get f.files i ≡ Some x → x.name ≢ name
+    none i x within at =
+        let P : List SavedFile → Type 0 = λ fs. slice_get fs i ≡ Some x in
+        let few : length (map image_text f.placed.images) ≤ image_count f.start.g.decl = omega (arith, length-map f.placed.images image_text, f.placed.images_are.fit.count) in
+        none_of_files out name f.placed.map_bytes (layout_text f.start.g.decl) (image_count f.start.g.decl) (map image_text f.placed.images) i x other few (subst P f.placed.files_are at)
+
 -- a placement was made
 found_made : SavedIsReadBack → ImagesFollow → (src script out : List ℕ) (clocks : ℕ) (old new : ShelfState) (before after : SinkState) (s : Status) (text : List ℕ) → IsTold old → s ≡ status.Done
     → Writes before after text → Found src script out clocks old new s text → IsMade src script out clocks old new before after
@@ -135,6 +148,7 @@ found_made law follow src script out clocks old new before after s text told don
       place = f.place;
       words = f.placed.words;
       saved = found_saved src script out clocks old new s text told f;
+      others = found_others src script out clocks old new s text f;
       written = written ∙ ap (λ (t : List ℕ). before.bytes ++ t) run.text_is;
       follows = λ other n fits. follow out f.start.g f.place f.files other n f.placed fits;
     }
@@ -164,7 +178,7 @@ done_made law follow src script out clocks conflicts old new before after s told
 -- ---- what was read back
 
 -- the run of the files as they stood once all were saved
-found_runs : (src script out : List ℕ) (clocks : ℕ) (old new : ShelfState) (s : Status) (text : List ℕ) → IsTrue old.tells → (f : Found src script out clocks old new s text)
+pub found_runs : (src script out : List ℕ) (clocks : ℕ) (old new : ShelfState) (s : Status) (text : List ℕ) → IsTrue old.tells → (f : Found src script out clocks old new s text)
     → RunsOrFails f.all.after.file out script f.start.bytes clocks s text
 found_runs src script out clocks old new s text tells f =
     let goes_on = goes_on_both old f.start.mid f.all.after (starts_go_on src script old f.start.mid f.start.g f.start.bytes f.start.starts) f.all.goes_on in
@@ -298,151 +312,21 @@ accepted_decides law src script out clocks conflicts old new before after s g by
     go (refuted r) = inr (inl r.status_is)
     go (undecided u) = inr (inr (inl u.status_is))
 
--- ---- the one file of a search that found no placement
+-- ---- accepted inputs are not refused
 
--- all files of other names stay
-only_file : (name bytes : List ℕ) (old new : ShelfState) → IsSaved old new (file_of name bytes ∷ []) → (other : List ℕ) → other ≢ name → new.file other ≡ old.file other
-only_file name bytes old new saved other differs = saved.others other none
+pub accepted_not_refused : SavedIsReadBack → (src script out : List ℕ) (clocks conflicts : ℕ) (old new : ShelfState) (before after : SinkState) (s : Status) (g : Graph) (bytes : List ℕ) (said : BusScript) → IsTold old
+    → IsAccepted src script old.file g bytes said → Ends (MakeAnswer src script out clocks conflicts old new) before after s → s ≢ status.Input
+accepted_not_refused law src script out clocks conflicts old new before after s g bytes said told accepted (inr failed) = λ input. subst IsInput (sym input ∙ failed.0) tt
+accepted_not_refused law src script out clocks conflicts old new before after s g bytes said told accepted (inl ended) = go (outcome_of src script out clocks conflicts old new s ended.0 ended.1)
   where
-    none : (i : ℕ) (x : SavedFile) → i < 1 → slice_get (file_of name bytes ∷ []) i ≡ Some x → x.name ≢ other
-    none zero x less at same = let is : x ≡ file_of name bytes = cc in differs (sym same ∙ ap (λ (f : SavedFile). f.name) is)
-    none (suc i) x less at same = omega (arith, less)
+    back : (f : Found src script out clocks old new s ended.0) → CannotReadBack f.all.after new s ended.0 ⊎ IsPlacedRun f.start.g.decl f.placed.words f.start.starts.read.said clocks s ended.0 → s ≢ status.Input
+    back f (inl unread) = λ input. subst IsInput (sym input ∙ unread.status_is) tt
+    back f (inr run) = λ input. subst IsInput (sym input ∙ run.status_is) tt
 
-started_file : (src script : List ℕ) (old new : ShelfState) (start : Start src script old) (name bytes : List ℕ) → IsSaved start.mid new (file_of name bytes ∷ [])
-    → (other : List ℕ) → other ≢ name → new.file other ≡ old.file other
-started_file src script old new start name bytes saved other differs =
-    only_file name bytes start.mid new saved other differs
-    ∙ file_at old start.mid other (starts_same src script old start.mid start.g start.bytes start.starts)
-
--- ---- refutations
-
-refuted_made : (src script out : List ℕ) (conflicts : ℕ) (old new : ShelfState) (before after : SinkState) (s : Status) (text : List ℕ) → IsTold old → Writes before after text
-    → (r : Refuted src script out conflicts old new s text) → SavesAndTells (refuted_files out (refutation_text (length (clauses_of r.start.g)) r.answer.lines)) status.Refuted (refuted_line (length r.answer.lines)) r.start.mid new s text
-    → IsRefuted src script out conflicts old new before after
-refuted_made src script out conflicts old new before after s text told written r saved = record {
-  g = r.start.g;
-  bytes = r.start.bytes;
-  said = r.start.starts.read.said;
-  accepted = accepted;
-  lines = r.answer.lines;
-  refutes = r.answer.refutes;
-  few = r.answer.few;
-  saved = saved.saved.whole (told_start src script old r.start told) 0 (file_of (refutation_name out) (refutation_text (length (clauses_of r.start.g)) r.answer.lines)) (omega arith) refl;
-  others = started_file src script old new r.start (refutation_name out) (refutation_text (length (clauses_of r.start.g)) r.answer.lines) saved.saved;
-  written = written ∙ ap (λ (t : List ℕ). before.bytes ++ t) saved.text_is;
-  checked_by = r.answer.accepted;
-  numbered = r.answer.numbered;
-  short = λ budget. short_refutation accepted.source r.start.g (length r.answer.lines) conflicts (length (refutation_text (length (clauses_of r.start.g)) r.answer.lines)) accepted.meant r.answer.few r.answer.short budget;
-  none_legal = r.answer.none_legal;
-}
-  where
-    accepted : IsAccepted src script old.file r.start.g r.start.bytes r.start.starts.read.said
-    accepted = starts_accepted src script old r.start.mid r.start.g r.start.bytes told.tells r.start.starts
-
-pub refuted_stands : (src script out : List ℕ) (clocks conflicts : ℕ) (old new : ShelfState) (before after : SinkState) (s : Status) → IsTold old → IsTrue before.tells → s ≡ status.Refuted
-    → Ends (MakeAnswer src script out clocks conflicts old new) before after s → IsRefuted src script out conflicts old new before after
-refuted_stands src script out clocks conflicts old new before after s told tells is ends = go (outcome_of src script out clocks conflicts old new s wrote.text wrote.is)
-  where
-    no_fault : s ≡ status.SinkFault → ⊥
-    no_fault fault = subst IsRefusal (sym is ∙ fault) tt
-
-    wrote : Wrote (MakeAnswer src script out clocks conflicts old new) before after s
-    wrote = ends_wrote (MakeAnswer src script out clocks conflicts old new) before after s tells no_fault ends
-
-    not_had : RefusesOrFails s → IsRefuted src script out conflicts old new before after
-    not_had (inl refuses) = absurd (subst IsRefusal (sym is ∙ refuses) tt)
-    not_had (inr fails) = absurd (subst IsRefusal (sym is ∙ fails) tt)
-
-    not_run : (f : Found src script out clocks old new s wrote.text) → RunsOrFails f.all.after.file out script f.start.bytes clocks s wrote.text → IsRefuted src script out conflicts old new before after
-    not_run f (inl refused) = absurd (subst IsRefusal (sym is ∙ refused.status_is) tt)
-    not_run f (inr (inl done_run)) = absurd (subst IsRefusal (sym is ∙ done_run.status_is) tt)
-    not_run f (inr (inr fails)) = absurd (subst IsRefusal (sym is ∙ fails) tt)
-
-    saved : (r : Refuted src script out conflicts old new s wrote.text) → SavesOrCannot (refuted_files out (refutation_text (length (clauses_of r.start.g)) r.answer.lines)) status.Refuted (refuted_line (length r.answer.lines)) r.start.mid new s wrote.text → IsRefuted src script out conflicts old new before after
-    saved r (inl cannot) = absurd (subst IsRefusal (sym is ∙ cannot.status_is) tt)
-    saved r (inr tells_it) = refuted_made src script out conflicts old new before after s wrote.text told wrote.written r tells_it
-
-    go : Outcome src script out clocks conflicts old new s wrote.text → IsRefuted src script out conflicts old new before after
-    go (lacks_inputs lacks) = not_had (inputs_status src script old new s wrote.text lacks.reply)
-    go (lacks_memory wants) = absurd (subst IsRefusal (sym is ∙ wants) tt)
-    go (lacks_file lacks) = absurd (subst IsRefusal (sym is ∙ lacks.status_is) tt)
-    go (found f) = not_run f (found_runs src script out clocks old new s wrote.text told.tells f)
-    go (refuted r) = saved r r.answer.answer
-    go (undecided u) = absurd (subst IsRefusal (sym is ∙ u.status_is) tt)
-
--- the check of a saved refutation is done, unless a fault is counted
-pub refuted_checks : (src script out : List ℕ) (conflicts : ℕ) (old new start end : ShelfState) (before after : SinkState) (t : Status) (text : List ℕ)
-    → IsRefuted src script out conflicts old new before after → conflicts ≤ 1000000 → src ≢ refutation_name out → IsTrue start.tells → start.file ≡ new.file
-    → CheckReply src (refutation_name out) start end t text → (t ≡ status.Done) ⊎ Rose start.faults end.faults
-refuted_checks src script out conflicts old new start end before after t text r budget differs tells same reply = go reply
-  where
-    held : Holds start.file src source_limit r.accepted.source
-    held = record {
-      there = file_at new start src same ∙ r.others src differs ∙ r.accepted.source_held.there;
-      fits = r.accepted.source_held.fits;
-    }
-
-    checked_reply : (mid : ShelfState) → GoesOn start mid → mid.file ≡ start.file → RefutationReply (refutation_name out) r.g mid end t text → (t ≡ status.Done) ⊎ Rose start.faults end.faults
-    checked_reply mid goes_on kept told = by (accepted (refutation_name out) r.g r.lines mid end t text (tells_goes_on start mid goes_on tells)
-        (file_at start mid (refutation_name out) kept ∙ file_at new start (refutation_name out) same ∙ r.saved) (omega (arith, r.short budget)) r.refutes
-        (omega (arith, few_instrs r.accepted.source r.g r.accepted.meant)) r.numbered told)
-      where
-        by : TellsAnswer (checked.Refutes (length r.lines)) t text ⊎ CannotRead (refutation_name out) mid end t text → (t ≡ status.Done) ⊎ Rose start.faults end.faults
-        by (inl answer) = inl answer.status_is
-        by (inr unread) = inr (omega (arith, goes_on.later, unread.rose))
-
-    go : CheckReply src (refutation_name out) start end t text → (t ≡ status.Done) ⊎ Rose start.faults end.faults
-    go (inl source) = inr (source_unread src start end r.accepted.source r.g t text tells held r.accepted.meant source).rose
-    go (inr checks) =
-        let P : Graph → Type 0 = λ g. RefutationReply (refutation_name out) g checks.mid end t text in
-        let is = source_read src start checks.mid r.accepted.source r.g checks.g tells held r.accepted.meant checks.source in
-        checked_reply checks.mid checks.source.file.goes_on checks.source.file.same (subst P is checks.reply)
-
--- ---- spent budgets
-
-undecided_made : (src script out : List ℕ) (conflicts : ℕ) (old new : ShelfState) (before after : SinkState) (s : Status) (text : List ℕ) → IsTold old → Writes before after text
-    → (u : Undecided src script out conflicts old new s text) → SavesAndTells (undecided_files out (part_text (length (clauses_of u.start.g)) u.answer.lines u.answer.clash)) status.Undecided (undecided_line conflicts) u.start.mid new s text
-    → IsUndecided src script out conflicts old new before after
-undecided_made src script out conflicts old new before after s text told written u saved = record {
-  g = u.start.g;
-  bytes = u.start.bytes;
-  said = u.start.starts.read.said;
-  accepted = starts_accepted src script old u.start.mid u.start.g u.start.bytes told.tells u.start.starts;
-  lines = u.answer.lines;
-  clash = u.answer.clash;
-  spent = u.answer.spent;
-  saved = saved.saved.whole (told_start src script old u.start told) 0 (file_of (undecided_name out) (part_text (length (clauses_of u.start.g)) u.answer.lines u.answer.clash)) (omega arith) refl;
-  others = started_file src script old new u.start (undecided_name out) (part_text (length (clauses_of u.start.g)) u.answer.lines u.answer.clash) saved.saved;
-  written = written ∙ ap (λ (t : List ℕ). before.bytes ++ t) saved.text_is;
-}
-
-pub undecided_stands : (src script out : List ℕ) (clocks conflicts : ℕ) (old new : ShelfState) (before after : SinkState) (s : Status) → IsTold old → IsTrue before.tells → s ≡ status.Undecided
-    → Ends (MakeAnswer src script out clocks conflicts old new) before after s → IsUndecided src script out conflicts old new before after
-undecided_stands src script out clocks conflicts old new before after s told tells is ends = go (outcome_of src script out clocks conflicts old new s wrote.text wrote.is)
-  where
-    no_fault : s ≡ status.SinkFault → ⊥
-    no_fault fault = subst IsSpent (sym is ∙ fault) tt
-
-    wrote : Wrote (MakeAnswer src script out clocks conflicts old new) before after s
-    wrote = ends_wrote (MakeAnswer src script out clocks conflicts old new) before after s tells no_fault ends
-
-    not_had : RefusesOrFails s → IsUndecided src script out conflicts old new before after
-    not_had (inl refuses) = absurd (subst IsSpent (sym is ∙ refuses) tt)
-    not_had (inr fails) = absurd (subst IsSpent (sym is ∙ fails) tt)
-
-    not_run : (f : Found src script out clocks old new s wrote.text) → RunsOrFails f.all.after.file out script f.start.bytes clocks s wrote.text → IsUndecided src script out conflicts old new before after
-    not_run f (inl refused) = absurd (subst IsSpent (sym is ∙ refused.status_is) tt)
-    not_run f (inr (inl done_run)) = absurd (subst IsSpent (sym is ∙ done_run.status_is) tt)
-    not_run f (inr (inr fails)) = absurd (subst IsSpent (sym is ∙ fails) tt)
-
-    saved : (u : Undecided src script out conflicts old new s wrote.text) → SavesOrCannot (undecided_files out (part_text (length (clauses_of u.start.g)) u.answer.lines u.answer.clash)) status.Undecided (undecided_line conflicts) u.start.mid new s wrote.text → IsUndecided src script out conflicts old new before after
-    saved u (inl cannot) = absurd (subst IsSpent (sym is ∙ cannot.status_is) tt)
-    saved u (inr tells_it) = undecided_made src script out conflicts old new before after s wrote.text told wrote.written u tells_it
-
-    go : Outcome src script out clocks conflicts old new s wrote.text → IsUndecided src script out conflicts old new before after
-    go (lacks_inputs lacks) = not_had (inputs_status src script old new s wrote.text lacks.reply)
-    go (lacks_memory wants) = absurd (subst IsSpent (sym is ∙ wants) tt)
-    go (lacks_file lacks) = absurd (subst IsSpent (sym is ∙ lacks.status_is) tt)
-    go (found f) = not_run f (found_runs src script out clocks old new s wrote.text told.tells f)
-    go (refuted r) = absurd (subst IsSpent (sym is ∙ r.status_is) tt)
-    go (undecided u) = saved u u.answer.answer
+    go : Outcome src script out clocks conflicts old new s ended.0 → s ≢ status.Input
+    go (lacks_inputs lacks) = λ input. subst IsInput (sym input ∙ (inputs_unread src script old new g bytes said s ended.0 told.tells accepted lacks.reply).status_is) tt
+    go (lacks_memory wants) = λ input. subst IsInput (sym input ∙ wants) tt
+    go (lacks_file lacks) = λ input. subst IsInput (sym input ∙ lacks.status_is) tt
+    go (found f) = back f (found_back law src script out clocks old new s ended.0 told f)
+    go (refuted r) = λ input. subst IsInput (sym input ∙ r.status_is) tt
+    go (undecided u) = λ input. subst IsInput (sym input ∙ u.status_is) tt

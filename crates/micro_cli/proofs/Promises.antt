@@ -7,8 +7,9 @@ use Rattle.replies.specs.declared.status.Status.{Status}
 use Rattle.micro_cli.specs.Command.{Command, map, flow, run, make, check}
 use Rattle.micro_cli.specs.Answer.{Answer}
 use Rattle.micro_cli.specs.Keeping.{Keeps}
-use Rattle.micro_cli.specs.Headline.{SavesImages, ReadsBack, SavesRefutation, ChecksOut, SpendsBudget, Decides, ChangesNothing}
-use Rattle.micro_cli.proofs.MakeLaws.{SavedIsReadBack, ImagesFollow, done_made, done_read_back, input_read_back, refuted_stands, refuted_checks, undecided_stands, accepted_decides, nothing_changed}
+use Rattle.micro_cli.specs.Headline.{SavesImages, ReadsBack, SavesRefutation, ChecksOut, SpendsBudget, Decides, NeverRefuses, ChangesNothing}
+use Rattle.micro_cli.proofs.MakeLaws.{SavedIsReadBack, ImagesFollow, done_made, done_read_back, input_read_back, accepted_decides, accepted_not_refused, nothing_changed}
+use Rattle.micro_cli.proofs.UnplacedLaws.{refuted_stands, refuted_checks, undecided_stands}
 
 pub images_kept : SavedIsReadBack → ImagesFollow → (command : Option Command) (old new : ShelfState) (before after : SinkState) (s : Status)
     → Ends (Answer command old new) before after s → SavesImages command old new before after s
@@ -73,6 +74,16 @@ decision_kept law (Some (flow src script clocks)) old new before after s ends = 
 decision_kept law (Some (run out script clocks)) old new before after s ends = tt
 decision_kept law (Some (check src refutation)) old new before after s ends = tt
 decision_kept law None old new before after s ends = tt
+
+pub acceptance_kept : SavedIsReadBack → (command : Option Command) (old new : ShelfState) (before after : SinkState) (s : Status)
+    → Ends (Answer command old new) before after s → NeverRefuses command old s
+acceptance_kept law (Some (make src script out clocks conflicts)) old new before after s ends =
+    λ g bytes said told accepted. accepted_not_refused law src script out clocks conflicts old new before after s g bytes said told accepted ends
+acceptance_kept law (Some (map src)) old new before after s ends = tt
+acceptance_kept law (Some (flow src script clocks)) old new before after s ends = tt
+acceptance_kept law (Some (run out script clocks)) old new before after s ends = tt
+acceptance_kept law (Some (check src refutation)) old new before after s ends = tt
+acceptance_kept law None old new before after s ends = tt
 
 pub files_kept : SavedIsReadBack → (command : Option Command) (old new : ShelfState) (before after : SinkState) (s : Status)
     → Keeps command old new → Ends (Answer command old new) before after s → ChangesNothing old new s

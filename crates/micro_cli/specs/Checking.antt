@@ -1,6 +1,6 @@
 -- What `check` replies: the checker's answer for a refutation of a source's placement clauses (this project's own choice).
-use Rattle.std.specs.Prelude.{ℕ, ◌≡◌, ◌<◌, ◌^◌, ◌⊎◌, List, IsTrue, Ok, Err, codes}
-use Rattle.io_base.specs.Shelf.{ShelfState}
+use Rattle.std.specs.Prelude.{ℕ, ◌≡◌, ◌-◌, ◌<◌, ◌^◌, ◌⊎◌, List, IsTrue, Ok, Err, codes}
+use Rattle.io_base.specs.Shelf.{ShelfState, GoesOn}
 use Rattle.io_base.specs.Loading.{TookMore}
 use Rattle.mcu_jumps.specs.Position.{Position}
 use Rattle.flow_graph.specs.Graph.{Graph}
@@ -36,8 +36,9 @@ pub record IsTooLong (name : List ℕ) (g : Graph) (old new : ShelfState) (s : S
   pub of_bytes : IsOfBytes refutation_limit (list_of g) old new (Err fault.TooLong)
   pub told : IsTrue old.tells → Explains (old.file name) refutation_limit (list_of g) (Err fault.TooLong)
 
--- the reply to a program and the file of this name: the checker's answer, or why there is none; that the name is absent
--- where a read told so
+-- the reply to a program and the file of this name: the checker's answer, or why there is none. It is that the name is absent
+-- where a read told so; and where more bytes than the limit were taken, that the file is too long, or an answer that the bytes
+-- within the limit decide.
 pub record RefutationReply (name : List ℕ) (g : Graph) (old new : ShelfState) (s : Status) (text : List ℕ) : Type 0 where
   pub reason :
       IsAnswer name g old new s text
@@ -45,6 +46,8 @@ pub record RefutationReply (name : List ℕ) (g : Graph) (old new : ShelfState) 
       ⊎ IsTooLong name g old new s text
       ⊎ CannotRead name old new s text
   pub absent : old.absent < new.absent → NoFile name refutation_limit old new s text
+  pub too_long : refutation_limit < new.taken - old.taken → IsTooLong name g old new s text ⊎ IsAnswer name g old new s text
+  pub goes_on : GoesOn old new
 
 -- the source is a program, and this is the reply to it and the refutation
 pub record ChecksSource (src refutation : List ℕ) (old new : ShelfState) (s : Status) (text : List ℕ) : Type 0 where

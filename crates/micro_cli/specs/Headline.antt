@@ -1,5 +1,6 @@
 -- What `make` promises of its answers, by the words, the files before and after, the bytes written and the status. The promises
--- are this project's own. Each speaks of a shelf that tells its files and of a sink that tells its bytes.
+-- are this project's own. Each speaks of a shelf that tells its files, and where it speaks of what was written, of a sink that
+-- tells its bytes. A budget that it asks to be at most 1,000,000 is one that the command line takes.
 use Rattle.std.specs.Prelude.{ℕ, ◌≡◌, ◌≢◌, ◌≤◌, ◌<◌, ◌+◌, ◌^◌, ◌⊎◌, ◌++◌, IsTrue, List, [], length, Option, Some, slice_get}
 use Rattle.io_base.specs.Causes.{Rose}
 use Rattle.io_base.specs.Shelf.{ShelfState, IsTold}
@@ -19,7 +20,7 @@ use Rattle.flow_sim.specs.Flow.{flow_trace}
 use Rattle.place_model.specs.Legal.{IsLegal}
 use Rattle.place_model.specs.MapText.{IsMapText}
 use Rattle.prom_split.specs.Microword.{AreWords}
-use Rattle.prom_split.specs.Images.{AreImages}
+use Rattle.prom_split.specs.Images.{AreImages, image_count}
 use Rattle.bus_bench.specs.Chip.{chip_text, chip_trace}
 use Rattle.bus_bench.specs.Matches.{Matches}
 use Rattle.clause_words.specs.Clauses.{clauses_of}
@@ -61,7 +62,13 @@ abbrev pub FollowsFlow : Graph → List Position → List ℕ → Type 0
 FollowsFlow g place words =
     (other : BusScript) (n : ℕ) → IsScriptFor g.decl.slices other → Matches place (chip_trace words g.decl other n) (flow_trace g other n)
 
--- the placement of an accepted source is saved, runs, and follows its flow
+-- none of the names of a placement's files, of which so many are images
+pub record IsNoFileName (out : List ℕ) (count : ℕ) (name : List ℕ) : Type 0 where
+  pub no_map : name ≢ map_name out
+  pub no_layout : name ≢ layout_name out
+  pub no_image : (number : ℕ) → number < count → name ≢ image_name out number
+
+-- the placement of an accepted source is saved, runs, and follows its flow; no other file changes
 pub record IsMade (src script out : List ℕ) (clocks : ℕ) (old new : ShelfState) (before after : SinkState) : Type 0 where
   pub g : Graph
   pub bytes : List ℕ
@@ -70,6 +77,7 @@ pub record IsMade (src script out : List ℕ) (clocks : ℕ) (old new : ShelfSta
   pub place : List Position
   pub words : List ℕ
   pub saved : SavesPlacement out g place words new.file
+  pub others : (name : List ℕ) → IsNoFileName out (image_count g.decl) name → new.file name ≡ old.file name
   pub written : Writes before after (placed_line ++ chip_text words g.decl said clocks)
   pub follows : FollowsFlow g place words
 
@@ -168,6 +176,13 @@ Decides (Some (make src script out clocks conflicts)) old new before after s =
     (g : Graph) (bytes : List ℕ) (said : BusScript) → IsTold old → IsTrue before.tells → IsAccepted src script old.file g bytes said →
     IsFaultless old new before after → IsDecision s
 Decides _ old new before after s = Unit {0}
+
+-- Over a shelf that is honest too, an accepted source is never refused, whatever was counted: not for its inputs, and not for what
+-- was just saved.
+abbrev pub NeverRefuses : Option Command → ShelfState → Status → Type 0
+NeverRefuses (Some (make src script out clocks conflicts)) old s =
+    (g : Graph) (bytes : List ℕ) (said : BusScript) → IsTold old → IsAccepted src script old.file g bytes said → s ≢ status.Input
+NeverRefuses _ old s = Unit {0}
 
 -- ---- what stays
 

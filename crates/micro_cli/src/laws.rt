@@ -8,7 +8,7 @@ ghost use Rattle.replies.specs.declared.status.Status.{Status};
 ghost use Rattle.micro_cli.specs.Command.{Command};
 ghost use Rattle.micro_cli.specs.Answer.{Answer};
 ghost use Rattle.micro_cli.specs.Keeping.{Keeps};
-ghost use Rattle.micro_cli.specs.Headline.{SavesImages, ReadsBack, SavesRefutation, ChecksOut, SpendsBudget, Decides, ChangesNothing};
+ghost use Rattle.micro_cli.specs.Headline.{SavesImages, ReadsBack, SavesRefutation, ChecksOut, SpendsBudget, Decides, NeverRefuses, ChangesNothing};
 
 use bench_answers::{images_follow_the_flow, saved_is_read_back};
 
@@ -27,6 +27,8 @@ pub(crate) fn answers_keep_the_promises()
         Ends (Answer command old new) before after s → SpendsBudget command old new before after s }
     ensures decides { (command : Option Command) (old new : ShelfState) (before after : SinkState) (s : Status) →
         Ends (Answer command old new) before after s → Decides command old new before after s }
+    ensures acceptance { (command : Option Command) (old new : ShelfState) (before after : SinkState) (s : Status) →
+        Ends (Answer command old new) before after s → NeverRefuses command old s }
     ensures nothing { (command : Option Command) (old new : ShelfState) (before after : SinkState) (s : Status) →
         Keeps command old new → Ends (Answer command old new) before after s → ChangesNothing old new s }
 {

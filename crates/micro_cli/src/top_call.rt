@@ -6,7 +6,7 @@ ghost use Rattle.replies.specs.Ending.{Ends};
 ghost use Rattle.micro_cli.specs.Command.{command_of};
 ghost use Rattle.micro_cli.specs.Answer.{Answer};
 ghost use Rattle.micro_cli.specs.Keeping.{Keeps};
-ghost use Rattle.micro_cli.specs.Headline.{SavesImages, ReadsBack, SavesRefutation, ChecksOut, SpendsBudget, Decides, ChangesNothing};
+ghost use Rattle.micro_cli.specs.Headline.{SavesImages, ReadsBack, SavesRefutation, ChecksOut, SpendsBudget, Decides, NeverRefuses, ChangesNothing};
 
 use crate::answering::answer;
 use crate::laws::answers_keep_the_promises;
@@ -35,6 +35,7 @@ pub fn top<S: Shelf, K: Sink>(alloc: Global, words: &[String], shelf: &mut S, ou
         (S.state shelf.old) (S.state shelf.new) (K.state out.old) (K.state out.new) result }
     ensures decides { Decides (command_of (map string_bytes words.now))
         (S.state shelf.old) (S.state shelf.new) (K.state out.old) (K.state out.new) result }
+    ensures acceptance { NeverRefuses (command_of (map string_bytes words.now)) (S.state shelf.old) result }
 
     // How the files and the sink are left.
     ensures keeps { Keeps (command_of (map string_bytes words.now)) (S.state shelf.old) (S.state shelf.new) }

@@ -58,6 +58,11 @@ pub fn check_ref<S: Shelf>(
     ensures too_long { IsErrOf result CheckFault.TooLong →
         TookMore (S.state shelf.old) (S.state shelf.new) (2 ^ 43) }
 
+    ensures failed_within { IsErrOf result CheckFault.Failed →
+        (S.state shelf.new).taken - (S.state shelf.old).taken ≤ 2 ^ 43 }
+    ensures absent_within { IsErrOf result CheckFault.NoFile →
+        (S.state shelf.new).taken - (S.state shelf.old).taken ≤ 2 ^ 43 }
+
     // How the shelf is left.
     ensures at_most { (S.state shelf.new).taken ≤ (S.state shelf.old).taken + 2 ^ 43 + 1 }
     ensures kept { IsErrOf result CheckFault.Failed

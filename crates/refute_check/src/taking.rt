@@ -39,6 +39,10 @@ pub(crate) fn take_file<S: Shelf>(
         (S.state shelf.old).file name.now ≡ None }
     ensures absent { (S.state shelf.old).absent < (S.state shelf.new).absent →
         IsErrOf result CheckFault.NoFile }
+    ensures failed_within { IsErrOf result CheckFault.Failed →
+        (S.state shelf.new).taken - (S.state shelf.old).taken ≤ limit }
+    ensures absent_within { IsErrOf result CheckFault.NoFile →
+        (S.state shelf.new).taken - (S.state shelf.old).taken ≤ limit }
     ensures at_most { (S.state shelf.new).taken ≤ (S.state shelf.old).taken + limit + 1 }
     ensures kept { IsErrOf result CheckFault.Failed
         ⊎ ((S.state shelf.new).last_failed ≡ (S.state shelf.old).last_failed) }

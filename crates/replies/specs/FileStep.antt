@@ -41,3 +41,4 @@ pub record FileReply (name : List ℕ) (limit : ℕ) (old new : ShelfState) (s :
   pub reason : NoFile name limit old new s text ⊎ TooLong name limit old new s text ⊎ CannotRead name old new s text
   pub absent : old.absent < new.absent → NoFile name limit old new s text
   pub too_long : limit < new.taken - old.taken → TooLong name limit old new s text
+  pub goes_on : GoesOn old new

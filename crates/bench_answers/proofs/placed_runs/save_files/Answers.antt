@@ -24,7 +24,7 @@ returns-in-Ok-save_all-clause-ends g c =
     let new = g.S.Shelf.state c.read_back.new.shelf in
     Ends-map (OrWants (BackReply asked.out.now asked.script.now c.args.bytes.now asked.clocks mid new))
     (UnlessUnsaved old new (FilesAnswer asked.out.now asked.script.now c.args.bytes.now asked.clocks c.args.files.now old new))
-    (saved_ends asked.out.now asked.script.now c.args.bytes.now asked.clocks c.args.files.now old mid new c.in-Ok-save_all.ensures.ok c.in-Ok-save_all.ensures.goes_on c.read_back.ensures.same)
+    (saved_ends asked.out.now asked.script.now c.args.bytes.now asked.clocks c.args.files.now old mid new c.in-Ok-save_all.ensures.ok c.in-Ok-save_all.ensures.no_read c.in-Ok-save_all.ensures.goes_on c.read_back.ensures.same)
     (g.K.Sink.state c.args.out.now) (g.K.Sink.state c.read_back.new.out) c.read_back.result c.read_back.ensures.ends
 
 pub tell_unsaved-requires-clause-place : goal.tell_unsaved-requires-clause-place

@@ -1,4 +1,4 @@
-use Rattle.micro_cli.proofs.Promises.{images_kept, read_back_kept, refutation_kept, checking_kept, budget_kept, decision_kept, files_kept}
+use Rattle.micro_cli.proofs.Promises.{images_kept, read_back_kept, refutation_kept, checking_kept, budget_kept, decision_kept, acceptance_kept, files_kept}
 use Rattle.micro_cli.proofs.laws.answers_keep_the_promises.Goals as goal
 
 pub returns-clause-images : goal.returns-clause-images
@@ -18,6 +18,9 @@ returns-clause-budget c = budget_kept
 
 pub returns-clause-decides : goal.returns-clause-decides
 returns-clause-decides c = decision_kept c.saved_is_read_back.ensures
+
+pub returns-clause-acceptance : goal.returns-clause-acceptance
+returns-clause-acceptance c = acceptance_kept c.saved_is_read_back.ensures
 
 pub returns-clause-nothing : goal.returns-clause-nothing
 returns-clause-nothing c = files_kept c.saved_is_read_back.ensures

@@ -33,6 +33,11 @@ returns-clause-decides g c =
     c.answers_keep_the_promises.ensures.decides (command_of (map string_bytes c.args.words.now)) (g.S.Shelf.state c.args.shelf.now) (g.S.Shelf.state c.answer-status.new.shelf)
     (g.K.Sink.state c.args.out.now) (g.K.Sink.state c.answer-status.new.out) c.answer-status.result c.answer-status.ensures.ends
 
+pub returns-clause-acceptance : goal.returns-clause-acceptance
+returns-clause-acceptance g c =
+    c.answers_keep_the_promises.ensures.acceptance (command_of (map string_bytes c.args.words.now)) (g.S.Shelf.state c.args.shelf.now) (g.S.Shelf.state c.answer-status.new.shelf)
+    (g.K.Sink.state c.args.out.now) (g.K.Sink.state c.answer-status.new.out) c.answer-status.result c.answer-status.ensures.ends
+
 pub returns-clause-nothing : goal.returns-clause-nothing
 returns-clause-nothing g c =
     c.answers_keep_the_promises.ensures.nothing (command_of (map string_bytes c.args.words.now)) (g.S.Shelf.state c.args.shelf.now) (g.S.Shelf.state c.answer-status.new.shelf)
