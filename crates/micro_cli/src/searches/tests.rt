@@ -1,6 +1,8 @@
 //! Small programs, what the search answers of them, and what stands after a fault.
 ghost use Rattle.std.specs.Prelude.{◌≤◌, ◌<◌, ◌^◌, length};
 
+mod examples;
+
 use crate::check_command::check_command;
 use crate::searches::place_and_save;
 use bench_answers::PlacedRun;
