@@ -1,5 +1,5 @@
 -- A file of another name is none of a placement's.
-use Rattle.std.proofs.Common.{ℕ, ◌≡◌, ◌≢◌, ◌+◌, List, [], ◌∷◌, length, Some, None, Option, sym, ap, ◌∙◌, suc, zero, slice_get, subst, map}
+use Rattle.std.proofs.Common.{ℕ, ◌≡◌, ◌≢◌, ◌+◌, List, [], ◌∷◌, length, Some, sym, ap, ◌∙◌, suc, zero, slice_get, subst, map}
 use Rattle.io_base.specs.Shelf.{ShelfState}
 use Rattle.mcu_jumps.specs.Position.{Position}
 use Rattle.flow_graph.specs.Graph.{Graph}
@@ -8,11 +8,8 @@ use Rattle.field_decl.specs.LayoutText.{layout_text}
 use Rattle.saved_files.specs.SavedFile.{SavedFile}
 use Rattle.saved_files.specs.FilesOfAnswers.{image_files, placed_files}
 use Rattle.saved_files.specs.Saving.{KeepsAllBut}
+use Rattle.saved_files.proofs.FileNameLemmas.{name_at}
 use Rattle.bench_answers.specs.PlacedFiles.{PlacesFiles, IsOtherName, KeepsOtherFiles}
-
-abbrev name_at : Option SavedFile → List ℕ
-name_at None = []
-name_at (Some x) = x.name
 
 no_image : (out name : List ℕ) (number : ℕ) (images : List (List ℕ)) (i : ℕ) (x : SavedFile)
     → IsOtherName out name → slice_get (image_files out number images) i ≡ Some x → x.name ≢ name

@@ -1,5 +1,5 @@
 -- What is read back of a saved placement is that placement, where the shelf tells its files.
-use Rattle.std.proofs.Common.{ℕ, suc, ◌≡◌, ◌≤◌, ◌<◌, ◌⊎◌, inl, inr, List, [], ◌∷◌, length, Option, Some, Result, Ok, Err, IsTrue, refl, sym, ap, ap₂, ◌∙◌, subst, arith, slice_get, map}
+use Rattle.std.proofs.Common.{ℕ, ◌≡◌, ◌≤◌, ◌<◌, ◌⊎◌, inl, inr, List, length, Option, Some, Result, Ok, Err, IsTrue, sym, ap, ap₂, ◌∙◌, subst, arith, slice_get, map}
 use Rattle.std.specs.Prelude.{option_map}
 use Rattle.std.proofs.lemmas.Option.{slice_get-map}
 use Rattle.io_base.specs.Loading.{ExplainsFault}
@@ -21,7 +21,8 @@ use Rattle.bus_script.specs.Script.{BusScript, script_of}
 use Rattle.bus_bench.specs.Law.{Declares}
 use Rattle.prom_split.specs.Images.{image_count, AreImages, AreJoined, FitWords}
 use Rattle.prom_split.specs.Microword.{HasNoBadShift}
-use Rattle.prom_split.proofs.JoinedBack.{read_back}
+use Rattle.prom_split.proofs.SplitSteps.{image_with}
+use Rattle.prom_split.proofs.JoinedBack.{read_back, same_images}
 use Rattle.prom_split.proofs.ListSteps.{element_at}
 use Rattle.saved_files.specs.FileNames.{layout_name, image_name}
 use Rattle.saved_files.specs.FilesOfAnswers.{placed_files}
@@ -127,9 +128,6 @@ image_unread out decl images number image old new s text is bits at stands (inr 
     absurd (not_both (reading decl.prom_bits 512 refused.bytes) image.words refused.fault
     (ap (λ (t : List ℕ). reading decl.prom_bits 512 t) same ∙ ap (λ (b : ℕ). reading b 512 (image_text image)) (sym bits) ∙ sym shown) (sym fault))
 
-abbrev image_of : ℕ → List ℕ → Image
-image_of bits words = record { bits = bits; words = words }
-
 -- words that such a text shows are the image's
 image_shown : (image read : Image) (bits : ℕ) (bytes : List ℕ) → IsImage image → image.bits ≡ bits → bytes ≡ image_text image → Reads bits 512 bytes (Ok read.words) → read.bits ≡ bits → read ≡ image
 image_shown image read bits bytes is width same shown read_bits =
@@ -138,22 +136,13 @@ image_shown image read bits bytes is width same shown read_bits =
     let words : read.words ≡ image.words =
     one_value (reading bits 512 bytes) read.words image.words (sym reads)
     (ap (λ (t : List ℕ). reading bits 512 t) same ∙ ap (λ (b : ℕ). reading b 512 (image_text image)) (sym width) ∙ sym printed) in
-    ap₂ image_of (read_bits ∙ sym width) words
+    ap₂ image_with (read_bits ∙ sym width) words
 
 -- ---- all images
 
-same_lists : {X : Type 0} → (xs ys : List X) → length xs ≡ length ys → ((k : ℕ) (x y : X) → slice_get xs k ≡ Some x → slice_get ys k ≡ Some y → x ≡ y) → xs ≡ ys
-same_lists [] [] many each = refl
-same_lists [] (y ∷ ys) many each = absurd (omega (arith, many))
-same_lists (x ∷ xs) [] many each = absurd (omega (arith, many))
-same_lists (x ∷ xs) (y ∷ ys) many each =
-    let first : x ≡ y = each 0 x y refl refl in
-    let rest : xs ≡ ys = same_lists xs ys (omega (arith, many)) (λ k a b at_a at_b. each (suc k) a b at_a at_b) in
-    cc
-
 images_read : (out : List ℕ) (decl : Declaration) (words : List ℕ) (images read : List Image) (old new : ShelfState) → AreImages decl words images → Stands out decl images old
     → HasImages out decl.prom_bits (image_count decl) old new read → read ≡ images
-images_read out decl words images read old new are stands has = same_lists read images (had.all ∙ sym are.fit.count) one
+images_read out decl words images read old new are stands has = same_images read images (had.all ∙ sym are.fit.count) one
   where
     had : AreHad out decl.prom_bits (image_count decl) old new read
     had = images_had out decl.prom_bits (image_count decl) old new read has

@@ -3,7 +3,7 @@ use Rattle.std.proofs.Common.{ℕ, ◌≡◌, inl, inr, List, ◌++◌, length, 
 use Rattle.std.proofs.lemmas.Option.{slice_get_within}
 use Rattle.io_base.specs.Causes.{Rose}
 use Rattle.io_base.specs.Shelf.{ShelfState, GoesOn, CountsNoRead}
-use Rattle.io_base.specs.Sink.{SinkState, Flows, Adds, AddsPrefix}
+use Rattle.io_base.specs.Sink.{SinkState, SinkGoesOn, Adds, AddsPrefix}
 use Rattle.mcu_jumps.specs.Position.{Position}
 use Rattle.field_decl.specs.Declaration.{Declaration}
 use Rattle.flow_graph.specs.Graph.{Graph}
@@ -55,7 +55,7 @@ placed_run decl words said clocks s text (inl run) =
 placed_run decl words said clocks s text (inr wants) =
     inr (record { status_is = wants.0; text_is = inr (ap (λ (t : List ℕ). placed_line ++ t) wants.1) })
 
-pub placed_ends : (decl : Declaration) (words : List ℕ) (said : BusScript) (clocks : ℕ) (old mid new : SinkState) (result : Status) → Flows old mid → Adds old mid placed_line
+pub placed_ends : (decl : Declaration) (words : List ℕ) (said : BusScript) (clocks : ℕ) (old mid new : SinkState) (result : Status) → SinkGoesOn old mid → Adds old mid placed_line
     → Ends (OrNoMemory (IsRun decl words said clocks)) mid new result → Ends (OrWants (IsPlacedRun decl words said clocks)) old new result
 placed_ends decl words said clocks old mid new result =
     ends_after (OrNoMemory (IsRun decl words said clocks)) (OrWants (IsPlacedRun decl words said clocks)) placed_line (placed_run decl words said clocks) old mid new result

@@ -15,8 +15,8 @@ use Rattle.saved_files.specs.FileNames.{map_name, layout_name, image_name}
 use Rattle.saved_files.specs.SavedFile.{SavedFile}
 use Rattle.saved_files.specs.FilesOfAnswers.{placed_files}
 
--- these are the files of a legal placement of a program: its map, its layout, and the canonical text of each image of its
--- words
+-- these are the files of a legal placement of a program: its map, its layout, and the canonical text of each image of
+-- its words
 pub record PlacesFiles (out : List ℕ) (g : Graph) (place : List Position) (files : List SavedFile) : Type 0 where
   pub program : IsGraph g
   pub legal : IsLegal g place

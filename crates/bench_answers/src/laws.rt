@@ -1,4 +1,5 @@
-//! Laws of what was saved and read back. They stand over the definitions alone, so their functions do nothing of their own.
+//! Laws of what was saved and read back. They stand over the definitions alone, so their functions do nothing of
+//! their own.
 ghost use Rattle.std.specs.Prelude.{ℕ, List, ◌≡◌, ◌⊎◌, Ok};
 ghost use Rattle.io_base.specs.Shelf.{ShelfState, IsTold};
 ghost use Rattle.mcu_jumps.specs.Position.{Position};
@@ -16,8 +17,9 @@ ghost use Rattle.bench_answers.specs.Placed.{AreSaved};
 
 use bus_bench::{chip_matches_flow, words_of_a_placement};
 
-/// Over a shelf that tells its files and is honest, what is read back of a saved placement is that placement: the reply is
-/// `placed` and the trace of its very words under what the script says, unless a read fails, which is told by its name.
+/// Over a shelf that tells its files and is honest, what is read back of a saved placement is that placement: the
+/// reply is `placed` and the trace of its very words under what the script says, unless a read fails, which is told
+/// by its name.
 pub fn saved_is_read_back()
     ensures { (out script bytes : List ℕ) (clocks : ℕ) (g : Graph) (place : List Position) (files : List SavedFile) (said : BusScript) (old new : ShelfState) (s : Status) (text : List ℕ) →
         IsTold old → (placed : PlacesFiles out g place files) → script_of g.decl.slices bytes ≡ Ok said →
@@ -27,8 +29,8 @@ pub fn saved_is_read_back()
     words_of_a_placement();
 }
 
-/// The bench on the words of a placement follows the symbolic flow, for every script that fits the array and every number of
-/// clocks.
+/// The bench on the words of a placement follows the symbolic flow, for every script that fits the array and every
+/// number of clocks.
 pub fn images_follow_the_flow()
     ensures { (out : List ℕ) (g : Graph) (place : List Position) (files : List SavedFile) (script : BusScript) (n : ℕ) →
         (placed : PlacesFiles out g place files) → IsScriptFor g.decl.slices script →

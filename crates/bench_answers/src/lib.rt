@@ -1,13 +1,14 @@
-//! What the bench answers: saved images are run, and a placement is saved, read back and run.
+//! What the bench answers: saved images are run, and a placement is saved, read back and run. Layer: answers.
 //!
 //! `run_saved` writes the trace of images that were saved, or the reply that refuses the first file that is not had.
-//! `save_and_run` saves a legal placement of a program, reads it back from the shelf and runs it. Over a shelf that tells its
-//! files and is honest, what is read back is what was saved (`saved_is_read_back`), and it follows the symbolic flow for every
-//! script and every number of clocks (`images_follow_the_flow`). Order and texts are this project's own choice.
+//! `save_and_run` saves a legal placement of a program, reads it back from the shelf and runs it. Over a shelf that
+//! tells its files and is honest, what is read back is what was saved (`saved_is_read_back`), and it follows the
+//! symbolic flow for every script and every number of clocks (`images_follow_the_flow`). Order and texts are this
+//! project's own choice.
 #![tactic(auto)]
 
+mod file_texts;
 mod laws;
-mod placed_files;
 mod placed_runs;
 mod saved_runs;
 mod shift_refusal;

@@ -1,7 +1,7 @@
 //! A placement is saved as images, read back and run.
 ghost use Rattle.std.specs.Prelude.{◌≡◌, ◌≤◌, ◌<◌, ◌^◌, [], Some, length, slice_get, vec_capacity};
 ghost use Rattle.io_base.specs.Shelf.{GoesOn};
-ghost use Rattle.io_base.specs.Sink.{Flows};
+ghost use Rattle.io_base.specs.Sink.{SinkGoesOn};
 ghost use Rattle.field_decl.specs.Decls.{declaration_of};
 ghost use Rattle.flow_graph.specs.Graph.{graph_of};
 ghost use Rattle.bus_script.specs.ScriptFits.{IsScriptFor};
@@ -15,7 +15,7 @@ ghost use Rattle.bench_answers.specs.PlacedFiles.{KeepsOtherFiles};
 ghost use Rattle.bench_answers.specs.ReadingBack.{BackReply, IsPlacedRun, OrWants, ShiftOrRun};
 ghost use Rattle.bench_answers.specs.Placed.{FilesAnswer, PlacedAnswer, UnlessUnsaved};
 
-use crate::placed_files::files_of;
+use crate::file_texts::files_of;
 use crate::shift_refusal::refuse_shift;
 use crate::traces::write_trace;
 use bus_bench::bad_shift;
@@ -24,16 +24,18 @@ use flow_graph::Program;
 use io_base::{Failed, OutOfMemory, Shelf, Sink, put_all};
 use place_model::Placement;
 use prom_files::{SavedWords, load_words};
-use replies::{Status, say, say_stop, script_from};
+use replies::{Status, say, say_no_memory, say_stop, script_from};
 use saved_files::{Text, room_for_unsaved, save_all, say_unsaved};
 use std::alloc::Global;
 
-/// Where a placement is saved and how it is run: the name of the output, of at most 200 bytes, the name under which the
-/// script is refused, and the number of clocks.
+/// Where a placement is saved and how it is run.
 #[derive(Clone, Copy)]
 pub struct PlacedRun<'a> {
+    /// The name of the output, of at most 200 bytes.
     pub out: &'a str,
+    /// The name under which the script is refused.
     pub script: &'a str,
+    /// How many clocks are run.
     pub clocks: u32,
 }
 
@@ -48,7 +50,7 @@ fn write_placed<K: Sink>(
     requires fits { IsScriptFor saved.now.decl.slices script.now }
     requires no_bad_shift { HasNoBadShift saved.now.words (declaration_of saved.now.decl) }
     ensures ends { Ends (OrWants (IsPlacedRun (declaration_of saved.now.decl) saved.now.words script.now clocks)) (K.state out.old) (K.state out.new) result }
-    ensures flows { Flows (K.state out.old) (K.state out.new) }
+    ensures sink_goes_on { SinkGoesOn (K.state out.old) (K.state out.new) }
 {
     match put_all(out, b"placed\n") {
         Ok(()) => write_trace(alloc, saved, script, clocks, out),
@@ -67,7 +69,7 @@ fn run_back<K: Sink>(
 ) -> Status
     requires { IsScriptFor saved.now.decl.slices script.now }
     ensures ends { Ends (OrWants (ShiftOrRun name.now (declaration_of saved.now.decl) saved.now.words script.now clocks)) (K.state out.old) (K.state out.new) result }
-    ensures flows { Flows (K.state out.old) (K.state out.new) }
+    ensures sink_goes_on { SinkGoesOn (K.state out.old) (K.state out.new) }
 {
     match bad_shift(&saved.words, &saved.decl) {
         Some(cell) => say_stop(out, refuse_shift(alloc, name, cell)),
@@ -89,7 +91,7 @@ fn read_back<S: Shelf, K: Sink>(
         (K.state out.old) (K.state out.new) result }
     ensures same { (S.state shelf.new).file ≡ (S.state shelf.old).file }
     ensures goes_on { GoesOn (S.state shelf.old) (S.state shelf.new) }
-    ensures flows { Flows (K.state out.old) (K.state out.new) }
+    ensures sink_goes_on { SinkGoesOn (K.state out.old) (K.state out.new) }
 {
     match load_words(alloc, shelf, asked.out) {
         Ok(saved) => match script_from(alloc, asked.script, bytes, saved.decl.slices) {
@@ -107,7 +109,7 @@ fn tell_unsaved<K: Sink>(out: &mut K, unsaved: &mut Vec<u8>, files: &[Text], pla
     requires empty { unsaved.old.items ≡ [] }
     requires room { 240 ≤ vec_capacity unsaved.old }
     ensures says { (file : SavedFile) → slice_get files.now place ≡ Some file → Says Status.ShelfFault (cannot_save file.name) (K.state out.old) (K.state out.new) result }
-    ensures flows { Flows (K.state out.old) (K.state out.new) }
+    ensures sink_goes_on { SinkGoesOn (K.state out.old) (K.state out.new) }
 {
     say_unsaved(unsaved, files[place].name());
     say(out, Status::ShelfFault, unsaved)
@@ -131,11 +133,11 @@ fn save_files<S: Shelf, K: Sink>(
         (K.state out.old) (K.state out.new) result }
     ensures others { KeepsAllBut (S.state shelf.old) (S.state shelf.new) files.now (length files.now) }
     ensures goes_on { GoesOn (S.state shelf.old) (S.state shelf.new) }
-    ensures flows { Flows (K.state out.old) (K.state out.new) }
+    ensures sink_goes_on { SinkGoesOn (K.state out.old) (K.state out.new) }
 {
     let mut unsaved = match room_for_unsaved(alloc) {
         Ok(text) => text,
-        Err(OutOfMemory) => return say(out, Status::NoMemory, b"no memory\n"),
+        Err(OutOfMemory) => return say_no_memory(out),
     };
     match save_all(shelf, files) {
         Ok(()) => read_back(alloc, shelf, out, asked, bytes),
@@ -143,11 +145,12 @@ fn save_files<S: Shelf, K: Sink>(
     }
 }
 
-/// Saves a legal placement of a program as `OUT.map`, `OUT.lay` and its images, reads layout and images back from the shelf,
-/// and runs them under the script's bytes, which are read for the declaration that was read back: `placed`, LF and the trace.
+/// Saves a legal placement of a program as `OUT.map`, `OUT.lay` and its images, reads layout and images back from the
+/// shelf, and runs them under the script's bytes, which are read for the declaration that was read back: `placed`, LF
+/// and the trace.
 ///
-/// Where a file is not saved it is told, and what is read back is refused as `run` refuses it. No other file changes. Memory
-/// is refused before the first file is begun, or once all are saved.
+/// Where a file is not saved it is told, and what is read back is refused as `run` refuses it. No other file changes.
+/// Memory is refused before the first file is begun, or once all are saved.
 pub fn save_and_run<S: Shelf, K: Sink>(
     alloc: Global,
     shelf: &mut S,
@@ -164,10 +167,10 @@ pub fn save_and_run<S: Shelf, K: Sink>(
         (K.state out.old) (K.state out.new) result }
     ensures others { KeepsOtherFiles asked.entry.out.now (S.state shelf.old) (S.state shelf.new) }
     ensures goes_on { GoesOn (S.state shelf.old) (S.state shelf.new) }
-    ensures flows { Flows (K.state out.old) (K.state out.new) }
+    ensures sink_goes_on { SinkGoesOn (K.state out.old) (K.state out.new) }
 {
     match files_of(alloc, asked.out, program, placement) {
         Ok(files) => save_files(alloc, shelf, out, asked, script_bytes, &files),
-        Err(OutOfMemory) => say(out, Status::NoMemory, b"no memory\n"),
+        Err(OutOfMemory) => say_no_memory(out),
     }
 }

@@ -1,7 +1,7 @@
 //! The trace of saved images on the bench.
 ghost use Rattle.std.specs.Prelude.{◌≡◌, ◌≤◌, MatchResult, IfOk, length};
 ghost use Rattle.io_base.specs.Shelf.{GoesOn};
-ghost use Rattle.io_base.specs.Sink.{Flows};
+ghost use Rattle.io_base.specs.Sink.{SinkGoesOn};
 ghost use Rattle.field_decl.specs.Decls.{declaration_of};
 ghost use Rattle.bus_script.specs.ScriptFits.{IsScriptFor};
 ghost use Rattle.replies.specs.Ending.{Ends, OrNoMemory, StopsBy};
@@ -59,7 +59,7 @@ fn write_run<K: Sink>(
 ) -> Status
     requires { IsScriptFor inputs.now.saved.decl.slices inputs.now.script }
     ensures ends { Ends (OrNoMemory (BenchReply name.now (declaration_of inputs.now.saved.decl) inputs.now.saved.words inputs.now.script clocks)) (K.state out.old) (K.state out.new) result }
-    ensures flows { Flows (K.state out.old) (K.state out.new) }
+    ensures sink_goes_on { SinkGoesOn (K.state out.old) (K.state out.new) }
 {
     match bad_shift(&inputs.saved.words, &inputs.saved.decl) {
         Some(cell) => say_stop(out, refuse_shift(alloc, name, cell)),
@@ -67,8 +67,8 @@ fn write_run<K: Sink>(
     }
 }
 
-/// Answers `run OUT SCRIPT clocks=N`: the trace of the images saved under `name`, or the reply that refuses the first file that
-/// is not had, or the first right shift with K bits. Names have at most 200 and 220 bytes. No file changes.
+/// Answers `run OUT SCRIPT clocks=N`: the trace of the images saved under `name`, or the reply that refuses the first
+/// file that is not had, or the first right shift with K bits. Names have at most 200 and 220 bytes. No file changes.
 pub fn run_saved<S: Shelf, K: Sink>(
     alloc: Global,
     shelf: &mut S,
@@ -83,7 +83,7 @@ pub fn run_saved<S: Shelf, K: Sink>(
         (K.state out.old) (K.state out.new) result }
     ensures same { (S.state shelf.new).file ≡ (S.state shelf.old).file }
     ensures goes_on { GoesOn (S.state shelf.old) (S.state shelf.new) }
-    ensures flows { Flows (K.state out.old) (K.state out.new) }
+    ensures sink_goes_on { SinkGoesOn (K.state out.old) (K.state out.new) }
 {
     match load_bench(alloc, shelf, name, script) {
         Ok(inputs) => write_run(alloc, name, &inputs, clocks, out),

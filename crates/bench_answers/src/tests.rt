@@ -36,14 +36,14 @@ const LOOP_IMAGES: [(&str, u32); 5] = [
     ("o.p4.bpnf", 16),
 ];
 
-/// The letter of a bit in an image.
+// The letter of a bit in an image.
 fn letter(word: u32, bit: u32) -> u8
     requires { bit ≤ 31 }
 {
     if word >> bit & 1 == 1 { b'P' } else { b'N' }
 }
 
-/// The text of four bits of a word, and LF.
+// The text of four bits of a word, and LF.
 fn frame(bits: u32) -> [u8; 7] {
     [
         b'B',
@@ -56,8 +56,8 @@ fn frame(bits: u32) -> [u8; 7] {
     ]
 }
 
-/// Adds the words of some addresses to an image of LOOP. Every word has function 0x60 from bit 11, HCZ, which is 3, from
-/// bit 7, and JCC to its row.
+// Adds the words of some addresses to an image of LOOP. Every word has function 0x60 from bit 11, HCZ, which is 3,
+// from bit 7, and JCC to its row.
 fn push_words(
     image: &mut Vec<u8>,
     first_bit: u32,
@@ -71,7 +71,7 @@ fn push_words(
     Ok(())
 }
 
-/// The program of a source.
+// The program of a source.
 fn program_of(alloc: Global, source: &[u8]) -> Option<Program> {
     if source.len() > 10_000 {
         return None;
@@ -82,7 +82,7 @@ fn program_of(alloc: Global, source: &[u8]) -> Option<Program> {
     }
 }
 
-/// Saves the pinned placement of a source as `o` and runs it under the script `t`.
+// Saves the pinned placement of a source as `o` and runs it under the script `t`.
 fn save_pinned<S: Shelf, K: Sink>(
     alloc: Global,
     shelf: &mut S,
@@ -108,7 +108,7 @@ fn save_pinned<S: Shelf, K: Sink>(
     Some(save_and_run(alloc, shelf, out, asked, &program, &placement, script))
 }
 
-/// Whether saving LOOP and running it ends with this status and text.
+// Whether saving LOOP and running it ends with this status and text.
 fn saves_loop<S: Shelf>(
     alloc: Global,
     shelf: &mut S,
@@ -122,7 +122,7 @@ fn saves_loop<S: Shelf>(
     ended == Some(status) && out.bytes() == text
 }
 
-/// Whether a file holds just these bytes.
+// Whether a file holds just these bytes.
 fn holds(shelf: &MemShelf, name: &str, bytes: &[u8]) -> bool {
     match shelf.file(name) {
         Some(file) => file == bytes,

@@ -1,4 +1,4 @@
--- A PROM image: what a PROM holds.
+-- A PROM image: what a PROM holds. Its sizes are this project's own choice.
 
 use Rattle.std.specs.Prelude.{ℕ, ◌≡◌, ◌<◌, ◌^◌, ◌⊎◌, List, length}
 use Rattle.std.specs.List.{All}

@@ -78,6 +78,7 @@ abbrev pub Fails : {Y : Type 0} → BpnfFault → Result Y BpnfFault → Type 0
 Fails OutOfMemory answer = Unit {0}
 Fails fault answer = answer ≡ Err fault
 
+-- what a function returned, as it is seen, is this answer, unless memory ran out
 abbrev pub Gives : {X Y : Type 0} → (X → Y) → Result X BpnfFault → Result Y BpnfFault → Type 0
 Gives view (Ok x) answer = answer ≡ Ok (view x)
 Gives view (Err fault) answer = Fails fault answer

@@ -19,12 +19,14 @@ impl Model for Bytes {
 }
 
 impl Bytes {
+    /// The bytes of this list.
     pub fn of(items: Vec<u8>) -> Self
         ensures { result ≡ items.items }
     {
         Bytes { items }
     }
 
+    /// The bytes in order.
     pub fn as_slice(&self) -> &[u8]
         ensures { result.now ≡ self.now }
     {

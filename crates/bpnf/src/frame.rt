@@ -16,7 +16,7 @@ pub(crate) struct OpenFrame {
     pub(crate) word: u8,
 }
 
-/// The bit that a letter stands for.
+// The bit that a letter stands for.
 fn bit_of_letter(byte: u8) -> Option<u8>
     ensures bit { result ≡ bit_of byte }
     ensures below { IfSome result (λ bit. bit < 2) }

@@ -1,4 +1,4 @@
-//! BPNF, the text form of a PROM's contents, in both directions.
+//! BPNF, the text form of a PROM's contents, in both directions. Layer: artefacts.
 //!
 //! `print` gives the one canonical text of an image. `read` takes exactly the texts that are as many
 //! frames as an image has words, with comments before, between and after them, and reports the

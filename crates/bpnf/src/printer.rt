@@ -10,7 +10,7 @@ use crate::Prom;
 use io_base::OutOfMemory;
 use std::alloc::{AllocError, Global};
 
-/// The letter of a bit of a word.
+// The letter of a bit of a word.
 fn letter_of_bit(word: u8, bit: u8) -> u8
     requires { bit < 8 }
     ensures { result ≡ letter (bit_at word bit) }
@@ -18,7 +18,7 @@ fn letter_of_bit(word: u8, bit: u8) -> u8
     if (word >> bit) & 1 == 1 { b'P' } else { b'N' }
 }
 
-/// Appends the letters of a word, most significant bit first.
+// Appends the letters of a word, most significant bit first.
 #[tactic(auto, unfolding(crate::specs::Frames::letters_of))]
 fn print_letters(text: &mut Vec<u8>, bits: u8, word: u8) -> Result<(), AllocError>
     requires { bits ≤ 8 }
@@ -30,7 +30,7 @@ fn print_letters(text: &mut Vec<u8>, bits: u8, word: u8) -> Result<(), AllocErro
     Ok(())
 }
 
-/// Appends the frame of a word, and LF.
+// Appends the frame of a word, and LF.
 fn print_frame(text: &mut Vec<u8>, bits: u8, word: u8) -> Result<(), AllocError>
     requires { bits ≤ 8 }
     ensures { OnOk result (text.new.items ≡ text.old.items ++ (frame bits word ++ 10 ∷ [])) }
@@ -42,7 +42,7 @@ fn print_frame(text: &mut Vec<u8>, bits: u8, word: u8) -> Result<(), AllocError>
     Ok(())
 }
 
-/// Appends the frames of the words.
+// Appends the frames of the words.
 #[tactic(auto, unfolding(crate::specs::Canonical::frames_of))]
 fn print_frames(text: &mut Vec<u8>, bits: u8, words: &[u8]) -> Result<(), AllocError>
     requires { bits ≤ 8 }
@@ -54,7 +54,7 @@ fn print_frames(text: &mut Vec<u8>, bits: u8, words: &[u8]) -> Result<(), AllocE
     Ok(())
 }
 
-/// The canonical text of an image: a frame and LF for each word, in rising address.
+/// The canonical text of an image: a frame and LF for each word, in rising address. It fails only for want of memory.
 pub fn print(alloc: Global, prom: &Prom) -> Result<Vec<u8>, OutOfMemory>
     ensures text { IfOk result (λ text. text.items ≡ image_text prom.now) }
     ensures read_again { IfOk result (λ text. Reads prom.now.bits 512 text.items (Ok prom.now.words)) }

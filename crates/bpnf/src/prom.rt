@@ -28,7 +28,7 @@ impl Model for Prom {
 impl Prom {
     ghost use Rattle.bpnf.specs.Image.{IsImage};
 
-    /// The image of these words.
+    /// The image of these 512 words of 4 or 8 bits.
     pub fn new(bits: u8, words: Bytes) -> Self
         requires { IsImage (record { bits = bits; words = words }) }
         ensures { result ≡ record { bits = bits; words = words } }

@@ -40,7 +40,7 @@ impl Reader {
         }
     }
 
-    /// Takes the next byte.
+    // Takes the next byte.
     fn take(&mut self, bits: u8, count: u16, position: usize, byte: u8) -> Result<(), BpnfFault>
         requires { bits ≤ 8 }
         ensures { Gives (λ _. self.new) result (at_byte bits count position self.old.words self.old.begun byte) }
@@ -51,7 +51,7 @@ impl Reader {
         }
     }
 
-    /// Takes a byte that stands outside a frame.
+    // Takes a byte that stands outside a frame.
     fn take_outside(&mut self, count: u16, position: usize, byte: u8) -> Result<(), BpnfFault>
         requires { self.old.begun ≡ None }
         ensures { Gives (λ _. self.new) result (outside count position self.old.words byte) }
@@ -70,7 +70,7 @@ impl Reader {
         Ok(())
     }
 
-    /// Takes a byte that stands inside the frame that is begun.
+    // Takes a byte that stands inside the frame that is begun.
     fn take_inside(
         &mut self,
         bits: u8,
@@ -96,7 +96,7 @@ impl Reader {
         Ok(())
     }
 
-    /// The words, where the text ends here.
+    // The words, where the text ends here.
     fn finish(self, count: u16) -> Result<Vec<u8>, BpnfFault>
         ensures { Gives (λ words. words.items) result (at_end count self.words self.begun) }
     {
@@ -110,7 +110,7 @@ impl Reader {
     }
 }
 
-/// The words that a text shows, so many of so many bits, or its first fault.
+// The words that a text shows, so many of so many bits, or its first fault.
 #[tactic(auto, unfolding(crate::specs::Reading::run))]
 fn read_words(alloc: Global, bytes: &[u8], bits: u8, count: u16) -> Result<Vec<u8>, BpnfFault>
     requires { bits ≤ 8 }

@@ -10,7 +10,7 @@ static NIBBLES: [&[u8; 4]; 16] = [
     b"PNPN", b"PNPP", b"PPNN", b"PPNP", b"PPPN", b"PPPP",
 ];
 
-/// Appends the frame of the lowest 4 or 8 bits of an address.
+// Appends the frame of the lowest 4 or 8 bits of an address.
 fn add_frame(text: &mut Vec<u8>, bits: u8, address: usize) -> Result<(), AllocError> {
     text.push(b'B')?;
     if bits == 8 {
@@ -21,7 +21,7 @@ fn add_frame(text: &mut Vec<u8>, bits: u8, address: usize) -> Result<(), AllocEr
     Ok(())
 }
 
-/// Frames of the lowest bits of their addresses, each followed by LF.
+// Frames of the lowest bits of their addresses, each followed by LF.
 fn frames(alloc: Global, bits: u8, count: usize) -> Result<Vec<u8>, AllocError> {
     let mut text = Vec::new(alloc);
     for address in 0..count {

@@ -13,9 +13,11 @@ use Rattle.place_model.specs.Cells.{IsAt}
 use Rattle.place_model.specs.Legal.{IsLegal}
 use Rattle.prom_split.specs.Parts.{word_by, parts_of}
 use Rattle.prom_split.specs.Microword.{share_in, parts_with, free_jump, word_at, HoldsProgram, HasNoBadShift}
+use Rattle.prom_split.proofs.ListSteps.{element_at}
+use Rattle.prom_split.proofs.PlacedLaws.{at_label}
+use Rattle.prom_split.proofs.WordSum.{gathered_zero}
 use Rattle.bus_bench.specs.Law.{IsGraph}
-use Rattle.bus_bench.proofs.Cells.{element, at_label}
-use Rattle.bus_bench.proofs.Orders.{IsHeld, read_back, instr_held, free_held, gathered_zero}
+use Rattle.bus_bench.proofs.Orders.{IsHeld, read_back, instr_held, free_held}
 
 -- a word that was made of such an order has no bad shift
 read_shift : (decl : Declaration) (order : Order) (values : List ℕ) (jump : JumpWord) (word : ℕ) → IsHeld decl order values → IsJump jump → word ≡ word_by decl (parts_with decl order values jump)
@@ -29,7 +31,7 @@ no_bad_shift g place words graph legal holds cell in_matrix = go (at_label place
     go : ((i : ℕ) × (slice_get place i ≡ Some cell)) ⊎ IsAt place None cell → IsTrue (is_shift (parts_of g.decl (word_at words cell)).func) → (parts_of g.decl (word_at words cell)).kbits ≡ 0
     go (inl at) =
         let within : at.0 < length g.instrs = subst (λ (n : ℕ). at.0 < n) legal.cell_for_each_label (slice_get_within place at.0 cell at.1) in
-        let here = element g.instrs at.0 within in
+        let here = element_at g.instrs at.0 within in
         let held = instr_held g.decl here.0 (graph.functions at.0 here.0 here.1) (graph.microwords.each at.0 here.0 here.1) in
         let w = holds.labels at.0 here.0 cell here.1 at.1 in
         read_shift g.decl (order_of g.decl (Some here.0)) (values_of g.decl (Some here.0)) w.0 (word_at words cell) held w.1.in_range w.2

@@ -4,8 +4,8 @@ use Rattle.std.proofs.lemmas.Bool.{eq-eqb}
 use Rattle.std.proofs.lemmas.Bool.Decides.{nat_tests}
 use Rattle.mcu_jumps.specs.declared.codes.Code.{Code}
 use Rattle.mcu_jumps.specs.declared.codes.Code.TheVariants as code
-use Rattle.mcu_jumps.specs.declared.codes.Kind.{Kind}
-use Rattle.mcu_jumps.specs.declared.codes.Kind.TheVariants as kind
+use Rattle.mcu_jumps.specs.declared.kinds.Kind.{Kind}
+use Rattle.mcu_jumps.specs.declared.kinds.Kind.TheVariants as kind
 use Rattle.mcu_jumps.specs.Position.{Position, IsCell}
 use Rattle.mcu_jumps.specs.JumpWord.{JumpWord, IsJump, operand_count}
 use Rattle.mcu_jumps.specs.Landing.{Admits, outcomes_of}

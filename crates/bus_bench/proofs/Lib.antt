@@ -1,10 +1,7 @@
-mod Fields
-mod Words
 mod Jumps
 mod Orders
 mod Steps
 mod Runs
-mod Cells
 mod Held
 mod ClockSteps
 mod TextSteps

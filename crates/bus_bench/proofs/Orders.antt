@@ -1,23 +1,21 @@
 -- What the chip reads at a label's cell, and at a free one.
-use Rattle.std.proofs.Common.{◌≡◌, ℕ, zero, suc, ◌*◌, ◌/◌, ◌<◌, ◌^◌, IsTrue, List, Option, Some, None, refl, sym, ap, ◌∙◌, arith}
-use Rattle.std.specs.Prelude.{slice_get}
-use Rattle.std.proofs.lemmas.Bool.{eqb-true, eq-eqb}
-use Rattle.std.proofs.lemmas.Nat.{pow_pos}
-use Rattle.std.proofs.Math.Nat.{div-eq_of_lt}
+use Rattle.std.proofs.Common.{◌≡◌, ℕ, zero, suc, ◌<◌, IsTrue, List, Some, None, refl, ap, ◌∙◌, arith}
+use Rattle.std.proofs.lemmas.Bool.{eqb-true}
 use Rattle.mcu_jumps.specs.JumpWord.{JumpWord, IsJump}
 use Rattle.cpe_slice.specs.FunctionCode.{is_shift}
 use Rattle.field_decl.specs.Declaration.{Declaration}
-use Rattle.field_decl.specs.KBits.{spread_bits, gathered_bits, has_kbits}
+use Rattle.field_decl.specs.KBits.{spread_bits, gathered_bits}
 use Rattle.field_decl.proofs.SpreadBits.{gathered_below}
 use Rattle.flow_graph.specs.declared.instructions.Instr.{Instr}
-use Rattle.flow_graph.specs.Microwords.{AreValues, IsMicroword}
-use Rattle.flow_graph.specs.Order.{Order, writes, order_of, values_of, defaults_of}
+use Rattle.flow_graph.specs.Microwords.{AreValues, FitsDeclaration}
+use Rattle.flow_graph.specs.Order.{Order, writes, order_of, values_of}
 use Rattle.prom_split.specs.Parts.{word_by, parts_of}
-use Rattle.prom_split.specs.Microword.{share_in, parts_with, word_with}
+use Rattle.prom_split.specs.Microword.{share_in, parts_with}
+use Rattle.prom_split.proofs.FieldBits.{defaults_held}
+use Rattle.prom_split.proofs.PartsBack.{parts_back}
+use Rattle.prom_split.proofs.WordSum.{gathered_zero}
 use Rattle.bus_bench.specs.Chip.{order_by}
 use Rattle.bus_bench.specs.Law.{Declares}
-use Rattle.bus_bench.proofs.Fields.{defaults_held}
-use Rattle.bus_bench.proofs.Words.{Fit, apart}
 
 -- an order that a word can hold, with these values of the fields
 pub record IsHeld (decl : Declaration) (order : Order) (values : List ℕ) : Type 0 where
@@ -31,7 +29,7 @@ pub record IsHeld (decl : Declaration) (order : Order) (values : List ℕ) : Typ
 pub read_back : (decl : Declaration) (order : Order) (values : List ℕ) (jump : JumpWord) → IsHeld decl order values → IsJump jump
     → parts_of decl (word_by decl (parts_with decl order values jump)) ≡ parts_with decl order values jump
 read_back decl order values jump h in_range =
-    apart decl (parts_with decl order values jump) (record { jump = in_range; func = h.func; kbits = gathered_below (share_in decl) decl.kbus order.mask; values = h.fields })
+    parts_back decl (parts_with decl order values jump) (record { jump = in_range; func = h.func; kbits = gathered_below (share_in decl) decl.kbus order.mask; values = h.fields })
 
 -- and they order what was ordered
 pub order_back : (decl : Declaration) (order : Order) (values : List ℕ) (jump : JumpWord) → IsHeld decl order values → order_by decl (parts_with decl order values jump) ≡ order
@@ -39,7 +37,7 @@ unfolding order_by
 order_back decl order values jump h = rw (h.mask, h.write)
 
 -- an instruction orders what a word can hold
-pub instr_held : (decl : Declaration) (instr : Instr) → instr.func < 128 → IsMicroword decl instr → IsHeld decl (order_of decl (Some instr)) (values_of decl (Some instr))
+pub instr_held : (decl : Declaration) (instr : Instr) → instr.func < 128 → FitsDeclaration decl instr → IsHeld decl (order_of decl (Some instr)) (values_of decl (Some instr))
 instr_held decl instr func h = record {
   func = func;
   mask = eqb-true (spread_bits (share_in decl) decl.kbus (gathered_bits (share_in decl) decl.kbus instr.mask)) instr.mask h.kbits;
@@ -48,12 +46,7 @@ instr_held decl instr func h = record {
   write = refl;
 }
 
--- no bus bits have no K bits, and the other way round
-pub gathered_zero : (share count : ℕ) → gathered_bits share count 0 ≡ 0
-unfolding gathered_bits
-gathered_zero share zero = refl
-gathered_zero share (suc count) = rw (div-eq_of_lt (pow_pos share), gathered_zero share count)
-
+-- no K bits drive no bus bits
 pub spread_zero : (share count : ℕ) → spread_bits share count 0 ≡ 0
 unfolding spread_bits
 spread_zero share zero = refl

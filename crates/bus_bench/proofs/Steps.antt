@@ -16,11 +16,11 @@ use Rattle.place_model.specs.Cells.{IsAt}
 use Rattle.place_model.specs.Legal.{IsLegal, MeetsLegality}
 use Rattle.prom_split.specs.Parts.{parts_of}
 use Rattle.prom_split.specs.Microword.{parts_with, HoldsProgram, free_jump}
+use Rattle.prom_split.proofs.ListSteps.{element_at}
 use Rattle.flow_sim.specs.Machine.{Machine, fi_of, readings_of, after, view_of}
 use Rattle.flow_sim.specs.Flow.{FlowState, outcome_of, or_trap, place_after, latch_after, strobes, shows, flow_step, flow_view}
 use Rattle.bus_bench.specs.Chip.{BenchState, parts_at, step_by, view_by, chip_step, chip_view}
 use Rattle.bus_bench.specs.Law.{IsGraph}
-use Rattle.bus_bench.proofs.Cells.{element}
 use Rattle.bus_bench.proofs.Jumps.{Agrees, agrees, outcome_below, latch_below, lands_in}
 use Rattle.bus_bench.proofs.Orders.{IsHeld, read_back, order_back, instr_held, free_held}
 
@@ -92,7 +92,7 @@ label_says g place words cell label m b instr graph holds in_matrix pr px sx at 
     let out : ℕ = outcome_of instr.kind t in
     let below : out < outcomes_of instr.kind = outcome_below instr.kind t pr px in
     let within : out < length instr.targets = subst (λ (n : ℕ). out < n) (sym (graph.program.each_instr label instr here).target_for_each_outcome) below in
-    let target = element instr.targets out within in
+    let target = element_at instr.targets out within in
     record {
       jump = jump;
       reads = ap (parts_of g.decl) w.2 ∙ read_back g.decl o instr.values jump held meets.in_range;
@@ -128,5 +128,5 @@ pub goes : (g : Graph) (place : List Position) (words : List ℕ) (cell : Positi
 goes g place words cell None m b graph legal holds px sx s = goes_by g place words cell None m b (trap_says g place words cell m b graph holds s.in_matrix s.pr s.there)
 goes g place words cell (Some label) m b graph legal holds px sx s =
     let within : label < length g.instrs = subst (λ (n : ℕ). label < n) legal.cell_for_each_label (slice_get_within place label cell s.there) in
-    let here = element g.instrs label within in
+    let here = element_at g.instrs label within in
     goes_by g place words cell (Some label) m b (rw here.1 (label_says g place words cell label m b here.0 graph holds s.in_matrix s.pr px sx s.there here.1))

@@ -1,6 +1,6 @@
 -- The text of a run, clock by clock.
 use Rattle.std.proofs.Common.{◌≡◌, ℕ, suc, ◌+◌, ◌-◌, ◌<◌, List, [], ◌++◌, refl, subst, arith}
-use Rattle.io_base.specs.Sink.{SinkState, Flows, Adds, AddsPrefix}
+use Rattle.io_base.specs.Sink.{SinkState, SinkGoesOn, Adds, AddsPrefix}
 use Rattle.field_decl.specs.Declaration.{Declaration}
 use Rattle.bus_script.specs.Script.{BusScript}
 use Rattle.flow_sim.specs.TraceText.{trace_text}
@@ -32,7 +32,7 @@ text_left words decl script clocks k s next line before is_line is_next =
 
 -- the line of a clock is written
 pub clock_written : (words : List ℕ) (decl : Declaration) (script : BusScript) (clocks k : ℕ) (s next : BenchState) (line : List ℕ) (start now new : SinkState) (whole : List ℕ)
-    → k < clocks → line ≡ clock_line words decl script s → next ≡ chip_step words decl s (buses_for script s) → Flows start now
+    → k < clocks → line ≡ clock_line words decl script s → next ≡ chip_step words decl s (buses_for script s) → SinkGoesOn start now
     → Written start now whole (text_from words decl script (clocks - k) s) → Adds now new line → Written start new whole (text_from words decl script (clocks - (k + 1)) next)
 clock_written words decl script clocks k s next line start now new whole before is_line is_next goes_on told adds =
     let left = text_left words decl script clocks k s next line before is_line is_next in
@@ -40,7 +40,7 @@ clock_written words decl script clocks k s next line start now new whole before 
 
 -- a front of the line of a clock is written
 pub clock_front : (words : List ℕ) (decl : Declaration) (script : BusScript) (clocks k : ℕ) (s next : BenchState) (line : List ℕ) (start now new : SinkState) (whole : List ℕ)
-    → k < clocks → line ≡ clock_line words decl script s → next ≡ chip_step words decl s (buses_for script s) → Flows start now
+    → k < clocks → line ≡ clock_line words decl script s → next ≡ chip_step words decl s (buses_for script s) → SinkGoesOn start now
     → Written start now whole (text_from words decl script (clocks - k) s) → AddsPrefix now new line → AddsPrefix start new whole
 clock_front words decl script clocks k s next line start now new whole before is_line is_next goes_on told adds =
     let left = text_left words decl script clocks k s next line before is_line is_next in

@@ -1,4 +1,5 @@
--- The words on which the bench does not run: the 3002's data sheet gives the right shift for a K bus of 0 alone.
+-- The words on which the bench does not run: the right shift is modelled for a K bus of 0 alone (this project's own
+-- choice).
 use Rattle.std.specs.Prelude.{ℕ, ◌≡◌, ◌≢◌, ◌<◌, List, IsTrue}
 use Rattle.mcu_jumps.specs.Position.{Position, IsCell, address_of}
 use Rattle.cpe_slice.specs.FunctionCode.{is_shift}

@@ -1,5 +1,6 @@
--- The bench: the 3001 that reads its microwords from the cells, its array, and a memory. What a word orders and where it
--- leads is by the data sheets of the 3001 and the 3002; the order of events in a clock is this project's own choice.
+-- The bench: the 3001 that reads its microwords from the cells, its array, and a memory. What a word orders and where
+-- it leads is by the data sheets of the 3001 and the 3002; the order of events in a clock is this project's own
+-- choice.
 use Rattle.std.specs.Prelude.{ℕ, zero, suc, List, [], ◌∷◌}
 use Rattle.mcu_jumps.specs.Position.{Position}
 use Rattle.mcu_jumps.specs.NextAddress.{next_of}

@@ -4,7 +4,7 @@ use Rattle.field_decl.specs.Declaration.{Declaration, IsDeclaration}
 use Rattle.flow_graph.specs.declared.instructions.Instr.{Instr}
 use Rattle.flow_graph.specs.Graph.{Graph}
 use Rattle.flow_graph.specs.Valid.{IsProgram}
-use Rattle.flow_graph.specs.Microwords.{AreMicrowords}
+use Rattle.flow_graph.specs.Microwords.{AllFitDeclaration}
 
 -- the numbers of a declaration fit together
 abbrev pub Declares : Declaration → Type 0
@@ -14,6 +14,6 @@ Declares decl = IsDeclaration decl.slices decl.kbus decl.fields decl.prom_words 
 pub record IsGraph (g : Graph) : Type 0 where
   pub declares : Declares g.decl
   pub program : IsProgram g.rows g.start g.pins g.instrs
-  pub microwords : AreMicrowords g.decl g.instrs
+  pub microwords : AllFitDeclaration g.decl g.instrs
   -- a function code has seven bits
   pub functions : (label : ℕ) (instr : Instr) → slice_get g.instrs label ≡ Some instr → instr.func < 128

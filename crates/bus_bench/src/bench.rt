@@ -1,17 +1,15 @@
 //! The bench between two clocks, and one clock of it.
 ghost use Rattle.std.specs.Prelude.{◌≡◌, ℕ, ◌+◌, ◌^◌, ◌<◌, IfOk, IsTrue};
-ghost use Rattle.std.specs.Option.{option_copied};
 ghost use Rattle.field_decl.specs.Decls.{declaration_of};
-ghost use Rattle.flow_graph.specs.Order.{is_one, writes};
 ghost use Rattle.bus_script.specs.ScriptFits.{AreBusesFor, IsScriptFor};
 ghost use Rattle.flow_sim.specs.Machine.{IsMachineFor, IsOrderFor};
 ghost use Rattle.bus_bench.specs.BadShift.{ShiftsUnmasked};
 ghost use Rattle.bus_bench.specs.Chip.{bench_start, order_by, parts_at, step_by, view_by, chip_step, chip_view};
 
-use crate::shift_test::word_at;
+use crate::word_at::word_at;
 use bus_script::{Buses, ClockView, Script};
 use field_decl::{Decl, spread};
-use flow_sim::{Machine, Order, array_answer};
+use flow_sim::{Machine, Order, array_answer, writes};
 use io_base::OutOfMemory;
 use mcu_chip::{Mcu, McuOut, step};
 use mcu_jumps::Cell;
@@ -22,7 +20,9 @@ use std::marker::Model;
 /// The 3001 at its present cell, and the machine with its memory.
 #[derive(Drop)]
 pub(crate) struct Bench {
+    /// The present cell.
     pub cell: Cell,
+    /// Registers, flags and memory.
     pub machine: Machine,
 }
 
@@ -32,26 +32,6 @@ impl Model for Bench {
     ghost Value = { BenchState };
 
     ghost view = { λ bench. record { cell = bench.cell; machine = bench.machine } };
-}
-
-// Whether the declared write field is 1 among these values.
-fn writes(write: Option<u8>, values: &[u32]) -> bool
-    ensures { result ≡ writes write values.now }
-{
-    match write {
-        Some(place) => is_one(values.get(place as usize)),
-        None => false,
-    }
-}
-
-// Whether there is a value, and it is 1.
-fn is_one(value: Option<&u32>) -> bool
-    ensures { result ≡ is_one (option_copied value.entry) }
-{
-    match value {
-        Some(value) => *value == 1,
-        None => false,
-    }
 }
 
 // What the parts of a word order.

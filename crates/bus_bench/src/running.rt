@@ -1,7 +1,7 @@
 //! The trace of the bench, written line by line.
 ghost use Rattle.std.specs.Prelude.{◌≡◌, ◌+◌, ◌^◌, ◌<◌, ◌≤◌, IfErr, OnOk, OnErr, Err, length};
 ghost use Rattle.io_base.specs.Causes.{Rose};
-ghost use Rattle.io_base.specs.Sink.{Flows, Adds, AddsPrefix};
+ghost use Rattle.io_base.specs.Sink.{SinkGoesOn, Adds, AddsPrefix};
 ghost use Rattle.mcu_jumps.specs.Position.{Position};
 ghost use Rattle.field_decl.specs.Decls.{declaration_of};
 ghost use Rattle.bus_script.specs.ScriptFits.{IsScriptFor};
@@ -23,9 +23,9 @@ use io_base::{Failed, OutOfMemory, Sink, put_all};
 use prom_split::Words;
 use std::alloc::Global;
 
-/// Does one clock, and makes its line.
+// Does one clock, and makes its line.
 #[tactic(auto, unfolding(crate::specs::Chip::clock_line))]
-fn next_line(
+fn next_trace_line(
     words: &Words,
     decl: &Decl,
     script: &Script,
@@ -46,7 +46,7 @@ fn next_line(
     view_line(cell_text(cell).as_slice(), &view, decl.slices, line);
 }
 
-/// Writes the lines of so many clocks from a state on.
+// Writes the lines of so many clocks from a state on.
 fn write_clocks<K: Sink>(
     words: &Words,
     decl: &Decl,
@@ -61,12 +61,12 @@ fn write_clocks<K: Sink>(
     requires early { bench.old.machine.clock + clocks < 2 ^ 32 }
     ensures ok { OnOk result (Adds (K.state sink.old) (K.state sink.new) (text_from words.now (declaration_of decl.now) script.now clocks bench.old)) }
     ensures err { OnErr result (AddsPrefix (K.state sink.old) (K.state sink.new) (text_from words.now (declaration_of decl.now) script.now clocks bench.old)) }
-    ensures goes_on { Flows (K.state sink.old) (K.state sink.new) }
+    ensures goes_on { SinkGoesOn (K.state sink.old) (K.state sink.new) }
     ensures cause { OnErr result (Rose (K.state sink.old).faults (K.state sink.new).faults) }
 {
     let mut line = ArrayVec::new();
     for clock in 0..clocks {
-        next_line(words, decl, script, bench, &mut line);
+        next_trace_line(words, decl, script, bench, &mut line);
         match put_all(sink, line.as_slice()) {
             Ok(()) => {}
             Err(Failed) => return Err(Failed),
@@ -77,9 +77,9 @@ fn write_clocks<K: Sink>(
 
 /// Runs the bench on these words for so many clocks, and writes a line for each clock, with its cell as `row.column`.
 ///
-/// Any words are run, with any declaration, but for words that order the right shift with K bits: then the first such cell is
-/// told, and nothing is written. After `Failed` a prefix of the text was written. Memory is taken before the first byte is
-/// written.
+/// Any words are run, with any declaration, but for words that order the right shift with K bits: then the first such
+/// cell is told, and nothing is written. After `Failed` a prefix of the text was written. Memory is taken before the
+/// first byte is written.
 pub fn run<K: Sink>(
     alloc: Global,
     words: &Words,
@@ -91,7 +91,7 @@ pub fn run<K: Sink>(
     requires script { IsScriptFor decl.now.slices script.now }
     ensures ok { OnOk result (Adds (K.state sink.old) (K.state sink.new) (chip_text words.now (declaration_of decl.now) script.now clocks)) }
     ensures err { OnErr result (AddsPrefix (K.state sink.old) (K.state sink.new) (chip_text words.now (declaration_of decl.now) script.now clocks)) }
-    ensures goes_on { Flows (K.state sink.old) (K.state sink.new) }
+    ensures goes_on { SinkGoesOn (K.state sink.old) (K.state sink.new) }
     ensures cause { IfErr result (IsCause (IsFirstBadShift words.now (declaration_of decl.now)) (K.state sink.old) (K.state sink.new)) }
     ensures shift { (cell : Position) → IsFirstBadShift words.now (declaration_of decl.now) cell → result ≡ Err (RunFault.ShiftMask cell) }
 {

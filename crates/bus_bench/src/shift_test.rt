@@ -1,28 +1,14 @@
 //! The test that every word can be run.
-ghost use Rattle.std.specs.Prelude.{◌≡◌, ◌/◌, ◌%◌, ◌<◌, IfNone, IfSome, IsTrue, false};
+ghost use Rattle.std.specs.Prelude.{◌≡◌, IfNone, IfSome, IsTrue, false};
 ghost use Rattle.field_decl.specs.Decls.{declaration_of};
 ghost use Rattle.prom_split.specs.Parts.{parts_of};
-ghost use Rattle.prom_split.specs.Microword.{word_at, HasNoBadShift};
+ghost use Rattle.prom_split.specs.Microword.{HasNoBadShift};
 ghost use Rattle.bus_bench.specs.BadShift.{ShiftsMasked, ShiftsUnmasked, IsFirstBadShift};
 
+use crate::word_at::{cell_at, word_at};
 use field_decl::Decl;
 use mcu_jumps::Cell;
 use prom_split::{Words, parts};
-
-/// The word at a cell.
-pub(crate) fn word_at(words: &Words, cell: Cell) -> u128
-    ensures { result ≡ word_at words.now cell }
-{
-    words.as_slice()[cell.address() as usize]
-}
-
-// The cell of an address.
-fn cell_at(address: u16) -> Cell
-    requires { address < 512 }
-    ensures { result ≡ record { row = address / 16; col = address % 16 } }
-{
-    Cell::at((address / 16) as u8, (address % 16) as u8)
-}
 
 // Whether a word orders the right shift with K bits other than 0.
 fn shifts_masked(word: u128, decl: &Decl) -> bool
@@ -33,8 +19,8 @@ fn shifts_masked(word: u128, decl: &Decl) -> bool
     parts.func.is_shift() && parts.kbits != 0
 }
 
-/// The first cell, in the order of the addresses, whose word orders the right shift with K bits other than 0, which the 3002
-/// does not give.
+/// The first cell, in the order of the addresses, whose word orders the right shift with K bits other than 0,
+/// which is not modelled.
 pub fn bad_shift(words: &Words, decl: &Decl) -> Option<Cell>
     ensures found { IfSome result (IsFirstBadShift words.now (declaration_of decl.now)) }
     ensures none { IfNone result (HasNoBadShift words.now (declaration_of decl.now)) }

@@ -4,12 +4,11 @@ ghost use Rattle.flow_graph.specs.Graph.{graph_of};
 ghost use Rattle.bus_script.specs.ScriptFits.{IsScriptFor};
 ghost use Rattle.place_model.specs.Legal.{IsLegal};
 
-use crate::sources::{EVERY_STATEMENT, EVERY_STATEMENT_SCRIPT, ONE_INSTRUCTION_LOOP};
 use crate::{bad_shift, chip_matches_flow, programs_have_graphs, run, words_of_a_placement};
 use bus_script::{Script, read_script};
 use field_decl::read_decl;
 use flow_graph::Program;
-use flow_sim::{RunFault, flow_run};
+use flow_sim::RunFault;
 use io_base::MemSink;
 use mcu_jumps::Cell;
 use micro_asm::assemble;
@@ -19,7 +18,15 @@ use std::alloc::Global;
 use std::process::Abort;
 use std::test::Fail;
 
-/// These lines, each with its line feed.
+// One instruction that leads to itself.
+const ONE_INSTRUCTION_LOOP: [&[u8]; 4] = [
+    b"slices 1",
+    b"start A",
+    b"pin A 0 0",
+    b"A: NOP R0 | goto A",
+];
+
+// These lines, each with its line feed.
 fn text_of(alloc: Global, lines: &[&[u8]]) -> Result<Vec<u8>, Fail> {
     let mut text = Vec::new(alloc);
     for line in lines {
@@ -29,7 +36,7 @@ fn text_of(alloc: Global, lines: &[&[u8]]) -> Result<Vec<u8>, Fail> {
     Ok(text)
 }
 
-/// The program of a source.
+// The program of a source.
 fn program_of(rt: &impl Abort, alloc: Global, source: &[&[u8]]) -> Result<Program, Fail> {
     let source = text_of(alloc, source)?;
     assert!(rt; source.len() < 10_000);
@@ -37,7 +44,7 @@ fn program_of(rt: &impl Abort, alloc: Global, source: &[&[u8]]) -> Result<Progra
     Ok(program)
 }
 
-/// The script of a text, for an array of this many slices.
+// The script of a text, for an array of this many slices.
 fn script_of(rt: &impl Abort, alloc: Global, script: &[&[u8]], slices: u8) -> Result<Script, Fail>
     requires { (1 ≤ slices) × (slices ≤ 16) }
     ensures { IfOk result (IsScriptFor slices) }
@@ -48,7 +55,7 @@ fn script_of(rt: &impl Abort, alloc: Global, script: &[&[u8]], slices: u8) -> Re
     Ok(script)
 }
 
-/// The placement of a program's pins.
+// The placement of a program's pins.
 fn placement_of(alloc: Global, program: &Program) -> Result<Placement, Fail>
     ensures { IfOk result (IsLegal (graph_of program.now)) }
 {
@@ -56,7 +63,7 @@ fn placement_of(alloc: Global, program: &Program) -> Result<Placement, Fail>
     Ok(placement)
 }
 
-/// The words of a placement.
+// The words of a placement.
 fn placed_words(alloc: Global, program: &Program, placement: &Placement) -> Result<Words, Fail>
     requires { IsLegal (graph_of program.now) placement.now }
 {
@@ -66,7 +73,7 @@ fn placed_words(alloc: Global, program: &Program, placement: &Placement) -> Resu
     }
 }
 
-/// What the bench writes of a pinned source.
+// What the bench writes of a pinned source.
 fn chip_text(
     rt: &impl Abort,
     alloc: Global,
@@ -84,23 +91,7 @@ fn chip_text(
     Ok(sink)
 }
 
-/// What the symbolic flow writes of a source.
-fn flow_text(
-    rt: &impl Abort,
-    alloc: Global,
-    program: &Program,
-    script: &Script,
-    clocks: u32,
-) -> Result<MemSink, Fail>
-    requires { IsScriptFor (graph_of program.now).decl.slices script.now }
-{
-    let mut sink = MemSink::new(alloc);
-    let written = flow_run(alloc, program, script, clocks, &mut sink);
-    assert_eq!(rt; written, Ok(()));
-    Ok(sink)
-}
-
-/// The words of a pinned source have this trace on the bench, one line a clock.
+// The words of a pinned source have this trace on the bench, one line a clock.
 fn traces(
     rt: &impl Abort,
     alloc: Global,
@@ -129,81 +120,7 @@ fn one_instruction_loops(rt: HostRuntime) -> Result<(), Fail> {
     traces(&rt, rt.alloc(), &ONE_INSTRUCTION_LOOP, &[], &trace)
 }
 
-/// The place of a line, and all but the place.
-fn cut_at_place(line: &str) -> Option<(&str, &str, &str)> {
-    let (clock, rest) = line.split_once(' ')?;
-    let (place, rest) = rest.split_once(' ')?;
-    Some((clock, place, rest))
-}
-
-/// Whether the label of a name has the cell of this text; in the trap, whether no label has.
-fn is_at(
-    alloc: Global,
-    program: &Program,
-    placement: &Placement,
-    name: &str,
-    place: &str,
-) -> Result<bool, Fail> {
-    let label = program.find(name.as_bytes());
-    for (other, cell) in placement.as_slice().iter().enumerate() {
-        let text = format!(in alloc; "{}.{}", cell.row(), cell.col())?;
-        if text.as_str() == place {
-            return Ok(match label {
-                Some(label) => label as usize == other,
-                None => false,
-            });
-        }
-    }
-    Ok(name == "-")
-}
-
-/// A line of the bench shows the clock that a line of the flow shows, at a cell where the flow is.
-fn lines_match(
-    alloc: Global,
-    program: &Program,
-    placement: &Placement,
-    chip: &str,
-    flow: &str,
-) -> Result<bool, Fail> {
-    let (clock, cell, rest) = cut_at_place(chip).ok_or("line")?;
-    let (flow_clock, name, flow_rest) = cut_at_place(flow).ok_or("line")?;
-    let same = clock == flow_clock && rest == flow_rest;
-    Ok(same && is_at(alloc, program, placement, name, cell)?)
-}
-
-/// Each line of the bench matches that of the flow. Answers how many there are.
-fn matching_lines(
-    rt: &impl Abort,
-    alloc: Global,
-    program: &Program,
-    chip: &[u8],
-    flow: &[u8],
-) -> Result<usize, Fail> {
-    let placement = placement_of(alloc, program)?;
-    let chip = std::str::from_utf8(chip).ok().ok_or("text")?;
-    let flow = std::str::from_utf8(flow).ok().ok_or("text")?;
-    let mut clocks = 0usize;
-    for (chip_line, flow_line) in chip.lines().zip(flow.lines()) {
-        let same = lines_match(alloc, program, &placement, chip_line, flow_line)?;
-        assert!(rt; same, "{chip_line} against {flow_line}");
-        clocks = clocks.saturating_add(1);
-    }
-    Ok(clocks)
-}
-
-#[test]
-fn every_statement_follows_the_flow(rt: HostRuntime) -> Result<(), Fail> {
-    let alloc = rt.alloc();
-    let program = program_of(&rt, alloc, &EVERY_STATEMENT)?;
-    let script = script_of(&rt, alloc, &EVERY_STATEMENT_SCRIPT, program.decl().slices)?;
-    let chip = chip_text(&rt, alloc, &program, &script, 30)?;
-    let flow = flow_text(&rt, alloc, &program, &script, 30)?;
-    let clocks = matching_lines(&rt, alloc, &program, chip.bytes(), flow.bytes())?;
-    assert_eq!(rt; clocks, 30);
-    Ok(())
-}
-
-/// These words, with the words at some addresses replaced.
+// These words, with the words at some addresses replaced.
 fn replaced(alloc: Global, words: &Words, others: &[(usize, u128)]) -> Result<Words, Fail> {
     let mut items = Vec::new(alloc);
     for word in words.as_slice() {
@@ -217,7 +134,7 @@ fn replaced(alloc: Global, words: &Words, others: &[(usize, u128)]) -> Result<Wo
     words_from(items)
 }
 
-/// 512 words.
+// 512 words.
 fn words_from(items: Vec<u128>) -> Result<Words, Fail> {
     if items.len() == 512 {
         Ok(Words::of(items))
@@ -226,7 +143,7 @@ fn words_from(items: Vec<u128>) -> Result<Words, Fail> {
     }
 }
 
-/// The words of the one-instruction loop with these others are refused at this cell, and nothing is written.
+// The words of the one-instruction loop with these others are refused at this cell, and nothing is written.
 fn refused_at(
     rt: &impl Abort,
     alloc: Global,
@@ -257,7 +174,7 @@ fn the_first_masked_shift_is_told(rt: HostRuntime) -> Result<(), Fail> {
     refused_at(&rt, alloc, &two, Cell::at(15, 15))
 }
 
-/// Words of no program, of 26 bits, from a linear congruence; the right shift has no K bits.
+// Words of no program, of 26 bits, from a linear congruence; the right shift has no K bits.
 fn scattered_words(alloc: Global) -> Result<Words, Fail> {
     let mut items = Vec::new(alloc);
     let mut state = 577u64;

@@ -19,8 +19,8 @@ use Rattle.bus_script.specs.declared.fault.ScriptKind.TheVariants as kinds
 use Rattle.bus_script.specs.declared.setting.Given.{Given}
 use Rattle.bus_script.specs.declared.setting.Setting.{Setting}
 use Rattle.bus_script.specs.Faults.{in_line}
-use Rattle.bus_script.specs.Script.{Said, Nothing, Cell, Clock, BusScript, script_by, value_at, memory_line, keyword_line, words_said, line_said, lines_said, script_of, idle}
-use Rattle.bus_script.specs.ScriptFits.{AreBusesFor, IsCellFor, IsScriptFor}
+use Rattle.bus_script.specs.Script.{Said, Nothing, MemoryWord, Clock, BusScript, script_by, value_at, memory_line, keyword_line, words_said, line_said, lines_said, script_of, idle}
+use Rattle.bus_script.specs.ScriptFits.{AreBusesFor, IsMemoryWordFor, IsScriptFor}
 use Rattle.bus_script.specs.ScriptSteps.{with_line}
 use Rattle.bus_script.specs.Settings.{settings_of, nothing_given, fresh_value, with_setting, given_after, buses_from, clock_buses}
 use Rattle.bus_script.specs.Words.{words_of}
@@ -113,22 +113,22 @@ buses_fit slices words =
 -- what a line says fits, and names no address that is named before
 IsSaidFor : ℕ → List (ℕ × ℕ) → Said → Type 0
 IsSaidFor slices memory Nothing = Unit {0}
-IsSaidFor slices memory (Cell address value) = IsCellFor slices (address, value) × (is_some (value_at memory address) ≡ false)
+IsSaidFor slices memory (MemoryWord address value) = IsMemoryWordFor slices (address, value) × (is_some (value_at memory address) ≡ false)
 IsSaidFor slices memory (Clock buses) = AreBusesFor slices buses
 
--- a cell that passes all tests
-tested_cell : (slices : ℕ) (memory : List (ℕ × ℕ)) (address value : ℕ) (named high wide : Bool) → is_some (value_at memory address) ≡ named → nat_lt 4095 address ≡ high → nat_le (4 ^ slices) value ≡ wide
-    → IfOk (if high || wide then Err kinds.Value else if named then Err kinds.Twice else Ok (Cell address value)) (IsSaidFor slices memory)
+-- a word that passes all tests
+tested_memory_word : (slices : ℕ) (memory : List (ℕ × ℕ)) (address value : ℕ) (named high wide : Bool) → is_some (value_at memory address) ≡ named → nat_lt 4095 address ≡ high → nat_le (4 ^ slices) value ≡ wide
+    → IfOk (if high || wide then Err kinds.Value else if named then Err kinds.Twice else Ok (MemoryWord address value)) (IsSaidFor slices memory)
 unfolding IsSaidFor
-tested_cell slices memory address value named true wide free h k = tt
-tested_cell slices memory address value named false true free h k = tt
-tested_cell slices memory address value true false false free h k = tt
-tested_cell slices memory address value false false false free h k = (record { address = grind arith; value = grind arith }, free)
+tested_memory_word slices memory address value named true wide free h k = tt
+tested_memory_word slices memory address value named false true free h k = tt
+tested_memory_word slices memory address value true false false free h k = tt
+tested_memory_word slices memory address value false false false free h k = (record { address = grind arith; value = grind arith }, free)
 
 -- a line of `mem`
 memory_fits : (slices : ℕ) (memory : List (ℕ × ℕ)) (line : List Word) → IfOk (memory_line slices memory line) (IsSaidFor slices memory)
 memory_fits slices memory (words.Number address ∷ words.Number value ∷ []) =
-    tested_cell slices memory address value (is_some (value_at memory address)) (nat_lt 4095 address) (nat_le (4 ^ slices) value) refl refl refl
+    tested_memory_word slices memory address value (is_some (value_at memory address)) (nat_lt 4095 address) (nat_le (4 ^ slices) value) refl refl refl
 memory_fits slices memory _ = tt
 
 -- a line of either keyword
@@ -162,24 +162,24 @@ said_fits slices number memory line =
 -- a value is found just where its key is among the keys
 found_key : (test : ℕ → Bool) (memory : List (ℕ × ℕ)) → is_some (lookup test memory) ≡ list_any test (keys_of memory)
 found_key test [] = refl
-found_key test (cell ∷ memory) = by_test (test cell.0) (lookup test memory) (list_any test (keys_of memory)) (found_key test memory)
+found_key test (word ∷ memory) = by_test (test word.0) (lookup test memory) (list_any test (keys_of memory)) (found_key test memory)
   where
-    by_test : (passes : Bool) (found : Option ℕ) (others : Bool) → is_some found ≡ others → is_some (cond passes (Some cell.1) found) ≡ (passes || others)
+    by_test : (passes : Bool) (found : Option ℕ) (others : Bool) → is_some found ≡ others → is_some (cond passes (Some word.1) found) ≡ (passes || others)
     by_test true found others h = refl
     by_test false found others h = h
 
 -- an address that is not named yet differs from all that are
 new_key : (memory : List (ℕ × ℕ)) (address value : ℕ) → IsDistinct nat_eq (keys_of memory) → is_some (value_at memory address) ≡ false → IsDistinct nat_eq (keys_of (memory ++ (address, value) ∷ []))
 new_key memory address value h free =
-    subst (IsDistinct nat_eq) (sym (map-append (λ (cell : ℕ × ℕ). cell.0) memory ((address, value) ∷ [])))
+    subst (IsDistinct nat_eq) (sym (map-append (λ (word : ℕ × ℕ). word.0) memory ((address, value) ∷ [])))
     (IsDistinct-push nat_eq_equiv (keys_of memory) address h (sym (found_key (nat_eq address) memory) ∙ free))
 
 -- one line more
 push_fits : (slices : ℕ) (script : BusScript) (said : Said) → IsScriptFor slices script → IsSaidFor slices script.memory said → IsScriptFor slices (with_line script said)
 unfolding IsSaidFor
 push_fits slices script Nothing h k = h
-push_fits slices script (Cell address value) h k = record {
-  memory = All-push (IsCellFor slices) script.memory (address, value) h.memory k.0;
+push_fits slices script (MemoryWord address value) h k = record {
+  memory = All-push (IsMemoryWordFor slices) script.memory (address, value) h.memory k.0;
   distinct = new_key script.memory address value h.distinct k.1;
   clocks = h.clocks;
 }
@@ -210,4 +210,4 @@ idle_fits slices = record { m = tt; i = some_words slices; px = omega arith; sx 
 
 -- the value that is named for an address
 pub named_fits : (slices : ℕ) (script : BusScript) (address : ℕ) → IsScriptFor slices script → IfSome (value_at script.memory address) (λ value. value < 4 ^ slices)
-named_fits slices script address h = All-lookup (λ value. value < 4 ^ slices) (nat_eq address) script.memory (λ place cell within. (h.memory place cell within).value)
+named_fits slices script address h = All-lookup (λ value. value < 4 ^ slices) (nat_eq address) script.memory (λ place word within. (h.memory place word within).value)

@@ -6,13 +6,13 @@ use Rattle.micro_lex.specs.Lines.{lines}
 use Rattle.field_decl.specs.Results.{◌>>=◌}
 use Rattle.bus_script.specs.declared.fault.ScriptKind.{ScriptKind}
 use Rattle.bus_script.specs.Faults.{in_line}
-use Rattle.bus_script.specs.Script.{Said, Nothing, Cell, Clock, BusScript, script_by, line_said, lines_said, script_of}
+use Rattle.bus_script.specs.Script.{Said, Nothing, MemoryWord, Clock, BusScript, script_by, line_said, lines_said, script_of}
 use Rattle.bus_script.specs.ScriptSteps.{with_line, with_said, after_lines}
 
 -- one line more
 pub script_push : (earlier : List Said) (said : Said) → script_by (earlier ++ said ∷ []) ≡ with_line (script_by earlier) said
 script_push earlier Nothing = simp (filter_map-append, append-nil)
-script_push earlier (Cell address value) = simp (filter_map-append, append-nil)
+script_push earlier (MemoryWord address value) = simp (filter_map-append, append-nil)
 script_push earlier (Clock buses) = simp (filter_map-append, append-nil)
 
 abbrev all_said : List Said → Result BusScript (ℕ × ScriptKind)

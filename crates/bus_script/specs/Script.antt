@@ -19,7 +19,7 @@ use Rattle.bus_script.specs.Words.{words_of}
 -- nothing; the value of the memory at an address before the first clock; or the buses of the next clock
 pub data Said : Type 0 where
   Nothing : Said
-  Cell : ℕ → ℕ → Said
+  MemoryWord : ℕ → ℕ → Said
   Clock : Buses → Said
 
 -- the addresses that are named, each with its value, and the buses of each clock from the first
@@ -28,9 +28,9 @@ pub record BusScript : Type 0 where
   pub clocks : List Buses
 
 -- the address that a line names, with its value
-abbrev pub cell_in : Said → Option (ℕ × ℕ)
-cell_in (Cell address value) = Some (address, value)
-cell_in _ = None
+abbrev pub memory_word_in : Said → Option (ℕ × ℕ)
+memory_word_in (MemoryWord address value) = Some (address, value)
+memory_word_in _ = None
 
 -- the buses that a line gives
 abbrev pub clock_in : Said → Option Buses
@@ -39,7 +39,7 @@ clock_in _ = None
 
 -- what these lines say together
 abbrev pub script_by : List Said → BusScript
-script_by said = record { memory = filter_map cell_in said; clocks = filter_map clock_in said }
+script_by said = record { memory = filter_map memory_word_in said; clocks = filter_map clock_in said }
 
 -- ---- what a script means
 
@@ -62,15 +62,15 @@ buses_at script clock = unwrap_or (slice_get script.clocks clock) idle
 -- ---- the lines
 
 -- an address above 4095 or a value above the greatest word, and then an address that an earlier line names, are refused
-abbrev pub cell_line : ℕ → List (ℕ × ℕ) → ℕ → ℕ → Result Said ScriptKind
-cell_line slices memory address value =
+abbrev pub memory_word_line : ℕ → List (ℕ × ℕ) → ℕ → ℕ → Result Said ScriptKind
+memory_word_line slices memory address value =
     if nat_lt 4095 address || nat_le (4 ^ slices) value then Err kinds.Value
     else if is_some (value_at memory address) then Err kinds.Twice
-    else Ok (Cell address value)
+    else Ok (MemoryWord address value)
 
 -- mem ADDRESS VALUE
 abbrev pub memory_line : ℕ → List (ℕ × ℕ) → List Word → Result Said ScriptKind
-memory_line slices memory (Number address ∷ Number value ∷ []) = cell_line slices memory address value
+memory_line slices memory (Number address ∷ Number value ∷ []) = memory_word_line slices memory address value
 memory_line slices memory _ = Err kinds.Shape
 
 -- clk KEY = NUMBER ..: the buses of the next clock
@@ -94,7 +94,8 @@ words_said slices memory _ = Err kinds.Word
 unfoldable pub line_said : ℕ → ℕ → List (ℕ × ℕ) → List ℕ → Result Said ScriptKind
 line_said slices number memory line = if nat_lt 65536 number then Err kinds.Lines else words_of line >>= words_said slices memory
 
--- what these and the further lines say, each judged after all lines before it, or the first line that is refused, by its number
+-- what these and the further lines say, each judged after all lines before it, or the first line that is refused, by
+-- its number
 unfoldable pub lines_said : ℕ → List Said → List (List ℕ) → Result (List Said) (ℕ × ScriptKind)
 lines_said slices earlier [] = Ok earlier
 lines_said slices earlier (line ∷ rest) =

@@ -13,12 +13,12 @@ pub record AreBusesFor (slices : ℕ) (buses : Buses) : Type 0 where
   pub sx : buses.sx < 16
 
 -- an address of the memory, and a word of an array of this many slices
-pub record IsCellFor (slices : ℕ) (cell : ℕ × ℕ) : Type 0 where
-  pub address : cell.0 < 4096
-  pub value : cell.1 < 4 ^ slices
+pub record IsMemoryWordFor (slices : ℕ) (word : ℕ × ℕ) : Type 0 where
+  pub address : word.0 < 4096
+  pub value : word.1 < 4 ^ slices
 
 -- all values of a script fit an array of this many slices, and no address is named twice
 pub record IsScriptFor (slices : ℕ) (script : BusScript) : Type 0 where
-  pub memory : All (IsCellFor slices) script.memory
+  pub memory : All (IsMemoryWordFor slices) script.memory
   pub distinct : IsDistinct nat_eq (keys_of script.memory)
   pub clocks : All (AreBusesFor slices) script.clocks

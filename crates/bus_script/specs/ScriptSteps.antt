@@ -3,12 +3,12 @@ use Rattle.std.specs.Prelude.{ℕ, ◌+◌, List, [], ◌∷◌, ◌++◌, Resul
 use Rattle.field_decl.specs.Results.{◌>>=◌}
 use Rattle.bus_script.specs.declared.fault.ScriptKind.{ScriptKind}
 use Rattle.bus_script.specs.Faults.{in_line}
-use Rattle.bus_script.specs.Script.{Said, Nothing, Cell, Clock, BusScript, line_said}
+use Rattle.bus_script.specs.Script.{Said, Nothing, MemoryWord, Clock, BusScript, line_said}
 
 -- what one line more adds
 abbrev pub with_line : BusScript → Said → BusScript
 with_line script Nothing = script
-with_line script (Cell address value) = record script { memory = script.memory ++ (address, value) ∷ [] }
+with_line script (MemoryWord address value) = record script { memory = script.memory ++ (address, value) ∷ [] }
 with_line script (Clock buses) = record script { clocks = script.clocks ++ buses ∷ [] }
 
 -- the script with what a line says, unless that is refused

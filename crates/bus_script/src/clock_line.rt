@@ -12,7 +12,7 @@ use crate::setting::{Given, Setting};
 use field_decl::Word;
 use std::alloc::Global;
 
-/// The setting that stands first, and the words after it.
+// The setting that stands first, and the words after it.
 fn first_setting(words: &[Word]) -> Option<(Setting, &[Word])>
     ensures { MatchOption result (settings_of words.now ≡ ended words.now) (λ first. IsFirstSetting words.now first.0 first.1.now) }
 {
@@ -33,7 +33,7 @@ fn first_setting(words: &[Word]) -> Option<(Setting, &[Word])>
     }
 }
 
-/// The settings that the words are, if they are nothing else.
+// The settings that the words are, if they are nothing else.
 #[tactic(auto, using(crate::proofs::SettingLists::front_push))]
 fn settings(alloc: Global, words: &[Word]) -> Result<Vec<Setting>, LineFault>
     ensures { Gives (λ settings. settings.items) result (settings_of words.now) }
@@ -51,7 +51,7 @@ fn settings(alloc: Global, words: &[Word]) -> Result<Vec<Setting>, LineFault>
     }
 }
 
-/// What the settings give, from the left.
+// What the settings give, from the left.
 #[tactic(auto, unfolding(crate::specs::Settings::given_after))]
 fn given_by(slices: u8, settings: &[Setting]) -> Result<Given, ScriptKind>
     requires { slices ≤ 16 }

@@ -8,12 +8,15 @@ use slice_array::Regs;
 pub struct ClockView {
     /// The clock's number, from 0.
     pub clock: u32,
+    /// The registers of the array.
     pub regs: Regs,
-    /// The flags F, C and Z.
+    /// The F latch: the last clock's flag input.
     pub f: bool,
+    /// The C flag.
     pub c: bool,
+    /// The Z flag.
     pub z: bool,
-    /// The PR latch, 4 bits.
+    /// The PR latch, 0 to 15.
     pub pr: u8,
     /// PR2 to PR0 where the PR outputs are enabled: `pr % 8`.
     pub pr_out: Option<u8>,

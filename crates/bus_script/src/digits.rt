@@ -30,6 +30,7 @@ pub(crate) fn hex_digit(value: u8) -> u8
     }
 }
 
+/// `1` for true, `0` for false.
 pub(crate) fn bit_digit(bit: bool) -> u8
     ensures { result ≡ bit_digit bit }
 {

@@ -36,7 +36,9 @@ pub enum ScriptKind {
 /// Why one line is not taken: it is refused, or memory is wanting.
 #[derive(Clone, Copy, Debug, PartialEq, Eq)]
 pub(crate) enum LineFault {
+    /// The line is refused.
     Kind(ScriptKind),
+    /// Memory was refused.
     OutOfMemory,
 }
 
@@ -45,6 +47,7 @@ pub(crate) enum LineFault {
 pub enum ScriptFault {
     /// The first refused line, from 1.
     At { line: u32, kind: ScriptKind },
+    /// Memory was refused.
     OutOfMemory,
 }
 

@@ -1,5 +1,5 @@
 //! Bus scripts and trace lines: what the outside puts on the buses of an array in each clock, and
-//! what one clock looks like in a trace.
+//! what one clock looks like in a trace. Layer: language.
 //!
 //! A script line is judged against all earlier ones. `read_script` gives just what a text says, or
 //! its first refused line. `at` and `initial` answer for every clock and every address of the

@@ -2,7 +2,7 @@
 
 ghost use Rattle.std.specs.Prelude.{◌≡◌, ◌<◌, ◌≤◌, ◌^◌, length};
 ghost use Rattle.bus_script.specs.Faults.{Gives};
-ghost use Rattle.bus_script.specs.Script.{cell_line, memory_line, clock_line, keyword_line, words_said, line_said};
+ghost use Rattle.bus_script.specs.Script.{memory_word_line, memory_line, clock_line, keyword_line, words_said, line_said};
 ghost use Rattle.bus_script.specs.ScriptSteps.{with_said};
 ghost use Rattle.bus_script.specs.Words.{lexical_fault, words_of};
 
@@ -15,9 +15,9 @@ use micro_lex::{LexFault, tokens};
 use std::alloc::Global;
 
 /// The most lines that a script may have.
-const MOST_LINES: u32 = 65_536;
+const LINE_LIMIT: u32 = 65_536;
 
-/// The line's refusal for a lexical fault.
+// The line's refusal for a lexical fault.
 fn lexical_fault(fault: LexFault) -> LineFault
     ensures { result ≡ lexical_fault fault }
 {
@@ -30,7 +30,7 @@ fn lexical_fault(fault: LexFault) -> LineFault
     }
 }
 
-/// The words of a line, or its refusal for its first lexical fault.
+// The words of a line, or its refusal for its first lexical fault.
 #[tactic(auto, unfolding(crate::specs::Words::words_of))]
 fn line_words(alloc: Global, line: &[u8]) -> Result<Vec<Word>, LineFault>
     requires { length line.now < 2 ^ 32 }
@@ -46,21 +46,28 @@ fn line_words(alloc: Global, line: &[u8]) -> Result<Vec<Word>, LineFault>
     }
 }
 
-/// Takes a line of `mem` and these words.
+// Takes a line of `mem` and these words.
 fn take_memory(slices: u8, script: &mut Script, words: &[Word]) -> Result<(), LineFault>
     requires { slices ≤ 16 }
     ensures { Gives (λ _. script.new) result (with_said script.old (memory_line slices script.old.memory words.now)) }
 {
     match words {
-        [Word::Number(address), Word::Number(value)] => take_cell(slices, script, *address, *value),
+        [Word::Number(address), Word::Number(value)] => take_memory_word(
+            slices, script, *address, *value,
+        ),
         _ => Err(LineFault::Kind(ScriptKind::Shape)),
     }
 }
 
-/// Takes a line of `mem`, an address and a value.
-fn take_cell(slices: u8, script: &mut Script, address: u128, value: u128) -> Result<(), LineFault>
+// Takes a line of `mem`, an address and a value.
+fn take_memory_word(
+    slices: u8,
+    script: &mut Script,
+    address: u128,
+    value: u128,
+) -> Result<(), LineFault>
     requires { slices ≤ 16 }
-    ensures { Gives (λ _. script.new) result (with_said script.old (cell_line slices script.old.memory address value)) }
+    ensures { Gives (λ _. script.new) result (with_said script.old (memory_word_line slices script.old.memory address value)) }
 {
     if address > 4095 || value >= word_limit(slices) {
         return Err(LineFault::Kind(ScriptKind::Value));
@@ -68,11 +75,11 @@ fn take_cell(slices: u8, script: &mut Script, address: u128, value: u128) -> Res
     if script.value_at(address as u16).is_some() {
         return Err(LineFault::Kind(ScriptKind::Twice));
     }
-    script.add_cell(address as u16, value as u32)?;
+    script.add_memory_word(address as u16, value as u32)?;
     Ok(())
 }
 
-/// Takes a line of `clk` and these words.
+// Takes a line of `clk` and these words.
 fn take_clock(
     alloc: Global,
     slices: u8,
@@ -91,7 +98,7 @@ fn take_clock(
     }
 }
 
-/// Takes a line of a keyword and these words.
+// Takes a line of a keyword and these words.
 #[tactic(auto, unfolding(crate::specs::Script::keyword_line))]
 fn take_keyword(
     alloc: Global,
@@ -112,7 +119,7 @@ fn take_keyword(
     }
 }
 
-/// Takes a line of these words.
+// Takes a line of these words.
 fn take_words(
     alloc: Global,
     slices: u8,
@@ -142,7 +149,7 @@ pub(crate) fn take_line(
     requires small { length line.now < 2 ^ 32 }
     ensures { Gives (λ _. script.new) result (with_said script.old (line_said slices number script.old.memory line.now)) }
 {
-    if number > MOST_LINES {
+    if number > LINE_LIMIT {
         return Err(LineFault::Kind(ScriptKind::Lines));
     }
     let words = line_words(alloc, line)?;

@@ -13,7 +13,7 @@ use crate::script::Script;
 use micro_lex::next_line;
 use std::alloc::Global;
 
-/// Takes all lines of a script.
+// Takes all lines of a script.
 #[tactic(auto, unfolding(crate::specs::ScriptSteps::after_lines))]
 fn take_lines(alloc: Global, bytes: &[u8], slices: u8) -> Result<Script, ScriptFault>
     requires small { length bytes.now < 2 ^ 32 }
@@ -39,7 +39,8 @@ fn take_lines(alloc: Global, bytes: &[u8], slices: u8) -> Result<Script, ScriptF
 ///
 /// Its lines are `mem ADDRESS VALUE`, which names the memory's value before the first clock,
 /// `clk KEY = NUMBER ..`, which gives the buses of the next clock by the keys `m`, `i`, `px` and
-/// `sx`, and empty ones. All values of the script fit the array.
+/// `sx`, and empty ones. Addresses are 0 to 4,095, and a script has at most 65,536 lines. All values of
+/// the script fit the array.
 pub fn read_script(alloc: Global, bytes: &[u8], slices: u8) -> Result<Script, ScriptFault>
     requires small { length bytes.now < 2 ^ 32 }
     requires some { 1 ≤ slices }

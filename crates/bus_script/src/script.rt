@@ -1,7 +1,7 @@
 //! A bus script: the memory before the first clock, and the buses of each clock.
 
 ghost use Rattle.std.specs.Prelude.{◌≡◌, ℕ, ◌<◌, ◌^◌, [], None, OnOk};
-ghost use Rattle.bus_script.specs.Script.{Cell, Clock, script_by, value_at, initial_at, buses_at};
+ghost use Rattle.bus_script.specs.Script.{MemoryWord, Clock, script_by, value_at, initial_at, buses_at};
 ghost use Rattle.bus_script.specs.ScriptFits.{AreBusesFor, IsScriptFor};
 ghost use Rattle.bus_script.specs.ScriptSteps.{with_line};
 
@@ -10,7 +10,7 @@ use indexmap::IndexMap;
 use std::alloc::{AllocError, Global};
 use std::marker::Model;
 
-/// What the outside gives to a run: values of the memory, and the buses of each clock.
+/// What the outside gives to a run: words of the memory before the first clock, and the buses of each clock.
 #[derive(Drop)]
 pub struct Script {
     memory: IndexMap<u16, u32>,
@@ -45,9 +45,9 @@ impl Script {
     }
 
     /// Names an address, with its value.
-    pub(crate) fn add_cell(&mut self, address: u16, value: u32) -> Result<(), AllocError>
+    pub(crate) fn add_memory_word(&mut self, address: u16, value: u32) -> Result<(), AllocError>
         requires { value_at self.old.memory address ≡ None }
-        ensures { OnOk result (self.new ≡ with_line self.old (Cell address value)) }
+        ensures { OnOk result (self.new ≡ with_line self.old (MemoryWord address value)) }
     {
         self.memory.insert(address, value)?;
         Ok(())
@@ -79,7 +79,7 @@ pub fn at(script: &Script, clock: u32) -> Buses
     }
 }
 
-/// The memory's value at an address before the first clock: 0 where the script names none.
+/// The memory's word at an address, 0 to 4,095, before the first clock: 0 where the script names none.
 pub fn initial(script: &Script, address: u16) -> u32
     requires { address < 4096 }
     ensures exact { result ≡ initial_at script.now address }

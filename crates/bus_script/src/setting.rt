@@ -10,7 +10,9 @@ use field_decl::Name;
 /// `KEY = NUMBER` as it stands; neither is judged yet.
 #[derive(Clone, Copy)]
 pub(crate) struct Setting {
+    /// The name before `=`.
     pub(crate) key: Name,
+    /// The number behind it.
     pub(crate) value: u128,
 }
 
@@ -33,7 +35,7 @@ pub(crate) fn word_limit(slices: u8) -> u128
     4u128.pow(slices as u32)
 }
 
-/// The value of a key that stands for a word.
+// The value of a key that stands for a word.
 fn fresh_word(given: Option<u32>, slices: u8, value: u128) -> Result<u32, ScriptKind>
     requires { slices ≤ 16 }
     ensures { result ≡ fresh_value given (4 ^ slices) value }
@@ -47,7 +49,7 @@ fn fresh_word(given: Option<u32>, slices: u8, value: u128) -> Result<u32, Script
     }
 }
 
-/// The value of a key that stands for four inputs of the 3001.
+// The value of a key that stands for four inputs of the 3001.
 fn fresh_inputs(given: Option<u8>, value: u128) -> Result<u8, ScriptKind>
     ensures { result ≡ fresh_value given 16 value }
 {
@@ -61,6 +63,7 @@ fn fresh_inputs(given: Option<u8>, value: u128) -> Result<u8, ScriptKind>
 }
 
 impl Given {
+    /// No key was given.
     pub(crate) fn nothing() -> Given
         ensures { result ≡ nothing_given }
     {

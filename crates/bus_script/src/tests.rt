@@ -117,7 +117,7 @@ fn scripts_have_65536_lines(rt: HostRuntime) -> Result<(), Fail> {
     Ok(())
 }
 
-/// A clock in which all is 0.
+// A clock in which all is 0.
 fn zero_view(clock: u32) -> ClockView
     ensures { result.values ≡ [] }
 {
@@ -140,7 +140,7 @@ fn zero_view(clock: u32) -> ClockView
     }
 }
 
-/// The line of a clock is this one, and nothing is left of an earlier line.
+// The line of a clock is this one, and nothing is left of an earlier line.
 fn shows(rt: &impl Abort, place: &[u8], view: &ClockView, slices: u8, line: &[u8]) {
     assert!(rt; place.len() <= 32 && slices <= 16 && view.pr < 16);
     let mut out = ArrayVec::new();

@@ -9,7 +9,7 @@ use crate::digits::{LINE_BYTES, add_decimal, add_hex, add_links, add_text, bit_d
 use arrayvec::ArrayVec;
 use slice_array::Regs;
 
-/// Adds the clock's number and the place.
+// Adds the clock's number and the place.
 fn add_place(line: &mut ArrayVec<u8, LINE_BYTES>, place: &[u8], clock: u32)
     requires { length line.old.items + length place.now + 11 ≤ 2048 }
     ensures text { line.new.items ≡ line.old.items ++ place_text place.now clock }
@@ -20,7 +20,7 @@ fn add_place(line: &mut ArrayVec<u8, LINE_BYTES>, place: &[u8], clock: u32)
     add_text(line, place);
 }
 
-/// Adds a word of an array.
+// Adds a word of an array.
 fn add_word(line: &mut ArrayVec<u8, LINE_BYTES>, slices: u8, word: u32)
     requires most { slices ≤ 16 }
     requires room { length line.old.items + 8 ≤ 2048 }
@@ -30,7 +30,7 @@ fn add_word(line: &mut ArrayVec<u8, LINE_BYTES>, slices: u8, word: u32)
     add_hex(line, (slices as u32 + 1) / 2, word);
 }
 
-/// Adds words of an array, each with a comma before it.
+// Adds words of an array, each with a comma before it.
 fn add_more_words(line: &mut ArrayVec<u8, LINE_BYTES>, slices: u8, words: &[u32])
     requires most { slices ≤ 16 }
     requires room { length line.old.items + 9 * length words.now ≤ 2048 }
@@ -43,7 +43,7 @@ fn add_more_words(line: &mut ArrayVec<u8, LINE_BYTES>, slices: u8, words: &[u32]
     }
 }
 
-/// Adds words of an array, with a comma between each two.
+// Adds words of an array, with a comma between each two.
 fn add_words(line: &mut ArrayVec<u8, LINE_BYTES>, slices: u8, words: &[u32])
     requires most { slices ≤ 16 }
     requires room { length line.old.items + 9 * length words.now ≤ 2048 }
@@ -56,7 +56,7 @@ fn add_words(line: &mut ArrayVec<u8, LINE_BYTES>, slices: u8, words: &[u32])
     }
 }
 
-/// Adds the registers: A is MAR, D is AC, then T and R0 to R9.
+// Adds the registers: A is MAR, D is AC, then T and R0 to R9.
 fn add_registers(line: &mut ArrayVec<u8, LINE_BYTES>, slices: u8, regs: &Regs)
     requires most { slices ≤ 16 }
     requires room { length line.old.items + 126 ≤ 2048 }
@@ -73,7 +73,7 @@ fn add_registers(line: &mut ArrayVec<u8, LINE_BYTES>, slices: u8, regs: &Regs)
     add_words(line, slices, &regs.r);
 }
 
-/// Adds what the PR outputs show, or `-` where they show nothing.
+// Adds what the PR outputs show, or `-` where they show nothing.
 fn add_shown(line: &mut ArrayVec<u8, LINE_BYTES>, shown: Option<u8>)
     requires { length line.old.items + 10 ≤ 2048 }
     ensures text { line.new.items ≡ line.old.items ++ shown_text shown }
@@ -85,7 +85,7 @@ fn add_shown(line: &mut ArrayVec<u8, LINE_BYTES>, shown: Option<u8>)
     }
 }
 
-/// Adds the flags, the PR latch, its outputs, and the interrupt strobe.
+// Adds the flags, the PR latch, its outputs, and the interrupt strobe.
 fn add_control(line: &mut ArrayVec<u8, LINE_BYTES>, view: &ClockView)
     requires latch { view.now.pr < 16 }
     requires room { length line.old.items + 27 ≤ 2048 }
@@ -105,7 +105,7 @@ fn add_control(line: &mut ArrayVec<u8, LINE_BYTES>, view: &ClockView)
     add_text(line, &[bit_digit(view.ise)]);
 }
 
-/// Adds numbers in decimal, each with a comma before it.
+// Adds numbers in decimal, each with a comma before it.
 fn add_more_values(line: &mut ArrayVec<u8, LINE_BYTES>, values: &[u32])
     requires { length line.old.items + 11 * length values.now ≤ 2048 }
     ensures text { line.new.items ≡ line.old.items ++ flat_map (λ value. codes "," ++ decimal value) values.now }
@@ -117,7 +117,7 @@ fn add_more_values(line: &mut ArrayVec<u8, LINE_BYTES>, values: &[u32])
     }
 }
 
-/// Adds the user fields, or `-` where there is none.
+// Adds the user fields, or `-` where there is none.
 fn add_fields(line: &mut ArrayVec<u8, LINE_BYTES>, values: &[u32])
     requires few { length values.now ≤ 80 }
     requires room { length line.old.items + 880 ≤ 2048 }
@@ -133,7 +133,7 @@ fn add_fields(line: &mut ArrayVec<u8, LINE_BYTES>, values: &[u32])
     }
 }
 
-/// Adds the user fields, and the links of the clock.
+// Adds the user fields, and the links of the clock.
 fn add_fields_and_links(line: &mut ArrayVec<u8, LINE_BYTES>, slices: u8, values: &[u32], links: u32)
     requires most { slices ≤ 16 }
     requires few { length values.now ≤ 80 }

@@ -5,11 +5,11 @@ use Rattle.std.specs.Prelude.{slice_get, AllPairs}
 use Rattle.std.proofs.lemmas.List.Elements.{All-nil, All-cons}
 use Rattle.clause_base.specs.Truth.{value_in, IsFalse, IsSettled, AreSettled, Forces, IsConflict, lits_of}
 use Rattle.clause_base.specs.Clauses.{Clauses}
-use Rattle.clause_base.specs.Refutation.{IsRun, Derived, AreDerived, Refutes, with_lines}
+use Rattle.clause_base.specs.Refutation.{IsUnitRun, Derived, AreDerived, Refutes, with_lines}
 use Rattle.clause_base.specs.Spent.{IsClash, Spent}
 use Rattle.clause_base.specs.Examples.{one_target_twice, every_pair, empty_line, decided_one}
-use Rattle.clause_base.specs.declared.log.Line.{Line}
-use Rattle.clause_base.specs.declared.clash.Entry.{Entry}
+use Rattle.clause_base.specs.declared.line.Line.{Line}
+use Rattle.clause_base.specs.declared.entry.Entry.{Entry}
 use Rattle.clause_base.specs.Lit.{var_of}
 use Rattle.std.specs.Option.{option_map_or}
 
@@ -31,7 +31,7 @@ forces held clauses number front z above there free before =
     }
 
 -- a line with no literal and these hints is derived where they are a run from nothing
-empty-derived : (list : Clauses) (hints : List ℕ) → IsRun list.clauses [] hints → Derived list (empty_line hints)
+empty-derived : (list : Clauses) (hints : List ℕ) → IsUnitRun list.clauses [] hints → Derived list (empty_line hints)
 empty-derived list hints run =
     record {
       above = λ k d lt. absurd (omega arith);
@@ -41,7 +41,7 @@ empty-derived list hints run =
     }
 
 -- the hints in their order: 33, 83 and 84 become true, and clause 4 is false
-in_order : IsRun one_target_twice.clauses [] (1 ∷ 2 ∷ 3 ∷ 4 ∷ [])
+in_order : IsUnitRun one_target_twice.clauses [] (1 ∷ 2 ∷ 3 ∷ 4 ∷ [])
 in_order =
     let cs : List (List ℤ) = one_target_twice.clauses in
     let column : List ℤ = pos 33 ∷ [] in

@@ -2,7 +2,7 @@
 
 use Rattle.std.specs.Prelude.{ℕ, pos, negsuc, List, [], ◌∷◌}
 use Rattle.clause_base.specs.Clauses.{Clauses}
-use Rattle.clause_base.specs.declared.log.Line.{Line}
+use Rattle.clause_base.specs.declared.line.Line.{Line}
 use Rattle.clause_base.specs.declared.clash.Clash.{Clash}
 
 -- Of the program `A: iff B B`, `B: goto B`, whose start is A, four clauses: A is in column 0 (33); from there the

@@ -5,13 +5,13 @@ use Rattle.std.specs.Prelude.{ℕ, ℤ, neg_ℤ, ◌<◌, ◌≤◌, ◌≡◌, 
 use Rattle.clause_base.specs.Lit.{var_of}
 use Rattle.clause_base.specs.Clauses.{Clauses}
 use Rattle.clause_base.specs.Truth.{IsConflict, Forces}
-use Rattle.clause_base.specs.declared.log.Line.{Line}
+use Rattle.clause_base.specs.declared.line.Line.{Line}
 
 -- each hint but the last is unit and its unassigned literal becomes true; the last, which there must be, is false
-abbrev pub IsRun : List (List ℤ) → List ℤ → List ℕ → Type 0
-IsRun clauses held [] = ⊥
-IsRun clauses held (last ∷ []) = IsConflict held clauses last
-IsRun clauses held (hint ∷ (next ∷ rest)) = (z : ℤ) × Forces held clauses hint z × IsRun clauses (held ++ z ∷ []) (next ∷ rest)
+abbrev pub IsUnitRun : List (List ℤ) → List ℤ → List ℕ → Type 0
+IsUnitRun clauses held [] = ⊥
+IsUnitRun clauses held (last ∷ []) = IsConflict held clauses last
+IsUnitRun clauses held (hint ∷ (next ∷ rest)) = (z : ℤ) × Forces held clauses hint z × IsUnitRun clauses (held ++ z ∷ []) (next ∷ rest)
 
 -- the line is derived: its literals are of the list's variables, no variable comes twice in it, and from all its
 -- literals false the hints lead to a false clause
@@ -19,7 +19,7 @@ pub record Derived (list : Clauses) (line : Line) : Type 0 where
   pub above : All (λ z. 0 < var_of z) line.clause
   pub in_range : All (λ z. var_of z ≤ list.vars) line.clause
   pub apart : AllPairs (λ a b. var_of a ≢ var_of b) line.clause
-  pub run : IsRun list.clauses (map neg_ℤ line.clause) line.hints
+  pub run : IsUnitRun list.clauses (map neg_ℤ line.clause) line.hints
 
 -- the clause of a line
 abbrev pub clause_of : Line → List ℤ

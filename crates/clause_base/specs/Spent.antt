@@ -6,8 +6,8 @@ use Rattle.clause_base.specs.Lit.{var_of}
 use Rattle.clause_base.specs.Clauses.{Clauses}
 use Rattle.clause_base.specs.Truth.{lits_of, AreSettled, IsConflict, Forces}
 use Rattle.clause_base.specs.Refutation.{AreDerived, with_lines}
-use Rattle.clause_base.specs.declared.log.Line.{Line}
-use Rattle.clause_base.specs.declared.clash.Entry.{Entry}
+use Rattle.clause_base.specs.declared.line.Line.{Line}
+use Rattle.clause_base.specs.declared.entry.Entry.{Entry}
 use Rattle.clause_base.specs.declared.clash.Clash.{Clash}
 
 -- the clause is new: it holds all literals of none of these

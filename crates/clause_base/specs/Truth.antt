@@ -4,7 +4,7 @@
 use Rattle.std.specs.Prelude.{ℕ, ℤ, ◌<◌, ◌-◌, ◌≡◌, ◌==◌, ◌⊎◌, Bool, true, false, not, if◌then◌else◌, List, [], ◌∷◌, ◌++◌, slice_get, Option, Some, None, All}
 use Rattle.std.specs.Option.{option_map}
 use Rattle.clause_base.specs.Lit.{var_of, is_positive}
-use Rattle.clause_base.specs.declared.clash.Entry.{Entry}
+use Rattle.clause_base.specs.declared.entry.Entry.{Entry}
 
 -- the literals that hold after these entries
 abbrev pub lits_of : List Entry → List ℤ

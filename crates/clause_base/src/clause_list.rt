@@ -46,7 +46,7 @@ impl ClauseList {
     }
 
     /// Adds a clause at the end. The pool holds fewer than 2^32 literals; a clause that would pass this
-    /// finds no memory.
+    /// finds no memory. After a refusal the list is as before.
     pub fn add(&mut self, clause: &[Lit]) -> Result<(), OutOfMemory>
         requires few { length self.old.clauses < 2 ^ 32 - 1 }
         requires valid { IsClause self.old.vars clause.now }
@@ -63,7 +63,7 @@ impl ClauseList {
         Ok(())
     }
 
-    /// The clause of that number.
+    /// The clause of that number, which counts from 1.
     pub fn get(&self, number: u32) -> &[Lit]
         requires { (0 < number) × (number ≤ length self.now.clauses) }
         ensures clause { slice_get self.now.clauses (number - 1) ≡ Some result.now }

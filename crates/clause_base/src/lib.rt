@@ -1,5 +1,6 @@
 //! Literals, clause lists, and the lines of a refutation: the words that the search, the refutation text
-//! and the checker share.
+//! and the checker share. `ClauseList` gives back just the clauses that were added, by their numbers from 1.
+//! Layer: decision.
 //!
 //! A clause list is what a contract sees: a number of variables and a list of clauses. What it means that
 //! a line is derived, that lines are a refutation, and that a budget is spent is said in `specs/Refutation`
@@ -8,13 +9,19 @@
 
 mod clash;
 mod clause_list;
+mod entry;
+mod line;
 mod lit;
 mod log;
+mod numbers;
 
-pub use clash::{Clash, Entries, Entry};
+pub use clash::Clash;
 pub use clause_list::ClauseList;
+pub use entry::{Entries, Entry};
+pub use line::Line;
 pub use lit::{Lit, Lits};
-pub use log::{Line, Log, Numbers};
+pub use log::Log;
+pub use numbers::Numbers;
 
 #[cfg(test)]
 mod tests;

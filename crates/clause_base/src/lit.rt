@@ -25,7 +25,7 @@ impl Model for Lit {
 }
 
 impl Lit {
-    /// The literal of that number. 0 names no variable, and the least `i32` has no negation.
+    /// The literal of that number; None for 0, which names no variable, and the least `i32`, which has no negation.
     pub fn new(value: i32) -> Option<Lit>
         ensures { SomeIff result (IsLit value) value }
     {
@@ -94,12 +94,14 @@ impl Model for Lits {
 }
 
 impl Lits {
+    /// The literals of this list.
     pub fn of(items: Vec<Lit>) -> Self
         ensures { result ≡ items.items }
     {
         Lits { items }
     }
 
+    /// The literals in order.
     pub fn as_slice(&self) -> &[Lit]
         ensures { result.now ≡ self.now }
     {

@@ -1,44 +1,9 @@
-//! The lines of a refutation, and the log of a search that is a list of them.
+//! The log of a search, which is a list of lines.
 
 ghost use Rattle.std.specs.Prelude.{◌≡◌};
 
-use crate::Lits;
+use crate::Line;
 use std::marker::Model;
-
-/// Numbers of clauses, counted from 1: those of the list first, then one for each line.
-#[derive(Drop)]
-pub struct Numbers {
-    items: Vec<u32>,
-}
-
-impl Model for Numbers {
-    ghost use Rattle.std.specs.Prelude.{ℕ, List};
-
-    ghost Value = { List ℕ };
-
-    ghost view = { λ l. l.items.items };
-}
-
-impl Numbers {
-    pub fn of(items: Vec<u32>) -> Self
-        ensures { result ≡ items.items }
-    {
-        Numbers { items }
-    }
-
-    pub fn as_slice(&self) -> &[u32]
-        ensures { result.now ≡ self.now }
-    {
-        &self.items
-    }
-}
-
-/// A clause, and the numbers of the clauses that it is derived from, in the order of the derivation.
-#[derive(Drop)]
-pub struct Line {
-    pub clause: Lits,
-    pub hints: Numbers,
-}
 
 /// Lines in order.
 #[derive(Drop)]
@@ -48,7 +13,7 @@ pub struct Log {
 
 impl Model for Log {
     ghost use Rattle.std.specs.Prelude.{List};
-    ghost use Rattle.clause_base.specs.declared.log.Line.{Line};
+    ghost use Rattle.clause_base.specs.declared.line.Line.{Line};
 
     ghost Value = { List Line };
 
@@ -56,12 +21,14 @@ impl Model for Log {
 }
 
 impl Log {
+    /// These lines.
     pub fn of(items: Vec<Line>) -> Self
         ensures { result ≡ items.items }
     {
         Log { items }
     }
 
+    /// The lines in order.
     pub fn as_slice(&self) -> &[Line]
         ensures { result.now ≡ self.now }
     {

@@ -2,8 +2,8 @@
 use Rattle.std.specs.Prelude.{length}
 use Rattle.clause_base.specs.Clauses.{Clauses}
 use Rattle.flow_graph.specs.Graph.{Graph}
-use Rattle.clause_words.specs.Number.{var_count_of}
-use Rattle.clause_words.specs.Clauses.{clauses_of}
+use Rattle.placement_clauses.specs.Number.{var_count_of}
+use Rattle.placement_clauses.specs.Clauses.{clauses_of}
 
 -- the clauses, over as many variables as the program has
 abbrev pub list_of : Graph → Clauses

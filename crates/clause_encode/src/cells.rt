@@ -1,11 +1,11 @@
 //! The first two classes: each label has one cell, and the cells of two labels differ.
 ghost use Rattle.std.specs.Prelude.{◌≡◌, ◌<◌, ◌≤◌, ◌^◌, ◌+◌, ◌*◌, OnOk};
-ghost use Rattle.clause_words.specs.Number.{var_count_of};
-ghost use Rattle.clause_words.specs.Clauses.{cell_clauses, apart_clauses, class_1, class_2};
+ghost use Rattle.placement_clauses.specs.Number.{var_count_of};
+ghost use Rattle.placement_clauses.specs.Clauses.{cell_clauses, apart_clauses, class_1, class_2};
 ghost use Rattle.clause_encode.specs.Adds.{Adds};
 
-use crate::numbers::{col_var, diff_var, negative, positive, row_var};
 use crate::shapes::{add_any_of, add_apart_unless, add_no_two};
+use crate::variable_numbers::{col_var, differ_var, negative, positive, row_var};
 use clause_base::ClauseList;
 use io_base::OutOfMemory;
 use std::alloc::Global;
@@ -34,7 +34,7 @@ fn add_apart(list: &mut ClauseList, labels: u32, i: u32, j: u32) -> Result<(), O
     requires vars { list.old.vars ≡ var_count_of labels }
     ensures { OnOk result (Adds list.old list.new (apart_clauses labels j i)) }
 {
-    let differ = diff_var(labels, i, j);
+    let differ = differ_var(labels, i, j);
     add_apart_unless(list, negative(differ), 32, row_var(i, 0), row_var(j, 0))?;
     add_apart_unless(list, positive(differ), 16, col_var(i, 0), col_var(j, 0))?;
     Ok(())

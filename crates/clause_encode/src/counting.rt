@@ -4,15 +4,16 @@ ghost use Rattle.mcu_jumps.specs.Landing.{outcomes_of};
 ghost use Rattle.flow_graph.specs.Graph.{graph_of};
 ghost use Rattle.flow_graph.specs.Targets.{HasLabel};
 ghost use Rattle.flow_graph.specs.Valid.{IsInstr};
-ghost use Rattle.clause_words.specs.Upto.{each_of};
-ghost use Rattle.clause_words.specs.Clauses.{col_clauses, outcome_clauses, target_clauses, flow_clauses, trap_pair, trap_outcome, trap_clauses, class_3, class_4, class_5, clauses_of};
+ghost use Rattle.placement_clauses.specs.Upto.{each_of};
+ghost use Rattle.placement_clauses.specs.Clauses.{col_clauses, outcome_clauses, target_clauses, flow_clauses, trap_pair, trap_outcome, trap_clauses, class_3, class_4, class_5, clauses_of};
 
 use crate::first_label::{FirstLabel, first_label_of};
 use crate::reaching::keeps_half;
 use flow_graph::{Instr, Program};
 use mcu_jumps::Kind;
 
-/// The clauses that put a label into the column of an outcome.
+/// The clauses that put a label into the column of an outcome: one for each column of the instruction where the test
+/// keeps its half, else one.
 pub(crate) fn cols_count(kind: Kind) -> u32
     ensures count { (s o y : ℕ) → length (col_clauses kind s o y) ≡ result }
     ensures few { result ≤ 16 }
@@ -20,7 +21,7 @@ pub(crate) fn cols_count(kind: Kind) -> u32
     if keeps_half(kind) { 16 } else { 1 }
 }
 
-/// The clauses of an outcome's label.
+/// The clauses of an outcome's label: one for each row, which the first label does without, and those of its column.
 pub(crate) fn outcome_count(kind: Kind, first: FirstLabel, o: u32) -> u32
     ensures count { (s y : ℕ) → length (outcome_clauses kind s first.outcome first.label o y) ≡ result }
     ensures few { result ≤ 48 }
@@ -54,6 +55,10 @@ pub(crate) fn targets_count(kind: Kind, first: FirstLabel, targets: &[Option<u16
 }
 
 /// The clauses of an instruction in the fourth class.
+///
+/// A `goto` has 51: its three ways (1), the same column (16), row 0 below column 15 (2), the same row (32). A `strobe`
+/// has the row and the column of its target (2). An `enable` has 48: the same column (16), a row that is reached from
+/// each row (32). A test has the 32 of the rows, and those of its targets.
 pub(crate) fn flow_count(instr: &Instr) -> u32
     requires outcomes { length instr.now.targets ≡ outcomes_of instr.now.kind }
     requires label { HasLabel instr.now.targets }
@@ -69,7 +74,8 @@ pub(crate) fn flow_count(instr: &Instr) -> u32
     }
 }
 
-/// The clauses that keep a label from where a trap outcome lands.
+/// The clauses that keep a label from where a trap outcome lands: one for each half of the columns where the test
+/// keeps its half, else one.
 pub(crate) fn trap_pair_count(kind: Kind) -> u32
     ensures count { (n x e o z : ℕ) → length (trap_pair n kind x e o z) ≡ result }
     ensures some { 0 < result }
@@ -127,7 +133,7 @@ pub(crate) fn instr_traps_count(labels: u32, instr: &Instr) -> u32
     traps_count(labels, instr.kind, first_label_of(targets), targets)
 }
 
-/// The third class.
+/// The third class: 2 for each pin, 2 for the start, and one for each label and each row from the bound on.
 pub(crate) fn class_3_count(program: &Program) -> u32
     ensures count { length (class_3 (graph_of program.now)) ≡ result }
     ensures few { result ≤ 20000 }
@@ -162,7 +168,7 @@ fn class_5_count(program: &Program) -> u32
     count
 }
 
-/// The number of clauses.
+/// The number of clauses: 618 for each label's cell, 48 for each pair of labels, and those of the other classes.
 pub fn clause_count(program: &Program) -> u32
     ensures { result ≡ length (clauses_of (graph_of program.now)) }
 {

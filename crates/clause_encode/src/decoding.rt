@@ -2,19 +2,19 @@
 ghost use Rattle.std.specs.Prelude.{◌≡◌, ◌<◌, ◌≤◌, ◌+◌, ◌^◌, true, length, IfOk};
 ghost use Rattle.flow_graph.specs.Graph.{graph_of};
 ghost use Rattle.place_model.specs.Legal.{IsLegal};
-ghost use Rattle.clause_words.specs.Truth.{AllHold, value_in};
-ghost use Rattle.clause_words.specs.Number.{var_count_of};
-ghost use Rattle.clause_words.specs.Shape.{one, any_of};
-ghost use Rattle.clause_words.specs.Clauses.{clauses_of};
-ghost use Rattle.clause_words.specs.Meaning.{HaveTrueCells};
-ghost use Rattle.clause_words.specs.PinCells.{HavePinCells};
+ghost use Rattle.placement_clauses.specs.Truth.{AllHold, truth_in};
+ghost use Rattle.placement_clauses.specs.Number.{var_count_of};
+ghost use Rattle.placement_clauses.specs.Shape.{one, any_of};
+ghost use Rattle.placement_clauses.specs.Clauses.{clauses_of};
+ghost use Rattle.placement_clauses.specs.Meaning.{HaveTrueCells};
+ghost use Rattle.placement_clauses.specs.PinCells.{HavePinCells};
 
-use crate::numbers::{col_var, row_var};
-use clause_words::Truths;
+use crate::variable_numbers::{col_var, row_var};
 use flow_graph::{Pin, Program};
 use io_base::OutOfMemory;
 use mcu_jumps::Cell;
 use place_model::Placement;
+use placement_clauses::Truths;
 use std::alloc::Global;
 
 // The cell of each pin is one of the matrix, as the type of a cell says of each.
@@ -22,6 +22,7 @@ fn pin_cells(pins: &[Pin])
     ensures { HavePinCells pins.now }
 {
     for pin in pins {
+        // A proof learns here that this cell is one of the matrix.
         let _cell = (pin.cell.row(), pin.cell.col());
     }
 }
@@ -31,9 +32,9 @@ fn first_true(model: &[bool], count: u32, first: u32) -> u32
     requires above { 0 < first }
     requires room { first + count ≤ length model.now + 1 }
     requires few { first + count < 2 ^ 31 }
-    requires some { AllHold (value_in model.now) (one (any_of count first)) }
+    requires some { AllHold (truth_in model.now) (one (any_of count first)) }
     ensures within { result < count }
-    ensures holds { value_in model.now (first + result) ≡ true }
+    ensures holds { truth_in model.now (first + result) ≡ true }
 {
     for k in 0..count {
         if model[(first + k - 1) as usize] {
@@ -46,9 +47,9 @@ fn first_true(model: &[bool], count: u32, first: u32) -> u32
 // The cell of each label.
 fn read_cells(alloc: Global, program: &Program, model: &[bool]) -> Result<Vec<Cell>, OutOfMemory>
     requires count { length model.now ≡ var_count_of (length (graph_of program.now).instrs) }
-    requires holds { AllHold (value_in model.now) (clauses_of (graph_of program.now)) }
+    requires holds { AllHold (truth_in model.now) (clauses_of (graph_of program.now)) }
     ensures legal { IfOk result (λ cells. IsLegal (graph_of program.now) cells.items) }
-    ensures decodes { IfOk result (λ cells. HaveTrueCells (value_in model.now) cells.items) }
+    ensures decodes { IfOk result (λ cells. HaveTrueCells (truth_in model.now) cells.items) }
 {
     pin_cells(program.pins().as_slice());
     let labels = u32::from(program.len());
@@ -62,12 +63,12 @@ fn read_cells(alloc: Global, program: &Program, model: &[bool]) -> Result<Vec<Ce
 }
 
 /// The legal placement that truth values stand for which make every clause of the program true: each label
-/// has the row and the column whose variables are true.
+/// has the row and the column whose variables are true. It fails only for want of memory.
 pub fn place_of(alloc: Global, program: &Program, model: &Truths) -> Result<Placement, OutOfMemory>
     requires count { length model.now ≡ var_count_of (length (graph_of program.now).instrs) }
-    requires holds { AllHold (value_in model.now) (clauses_of (graph_of program.now)) }
+    requires holds { AllHold (truth_in model.now) (clauses_of (graph_of program.now)) }
     ensures legal { IfOk result (IsLegal (graph_of program.now)) }
-    ensures decodes { IfOk result (HaveTrueCells (value_in model.now)) }
+    ensures decodes { IfOk result (HaveTrueCells (truth_in model.now)) }
 {
     let cells = read_cells(alloc, program, model.as_slice())?;
     Ok(Placement::new(cells))

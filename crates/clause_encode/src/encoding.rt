@@ -3,16 +3,16 @@ ghost use Rattle.std.specs.Prelude.{◌≡◌, List, IfOk, length};
 ghost use Rattle.mcu_jumps.specs.Position.{Position};
 ghost use Rattle.flow_graph.specs.Graph.{graph_of};
 ghost use Rattle.place_model.specs.Legal.{IsLegal};
-ghost use Rattle.clause_words.specs.Truth.{AllHold, value_in};
-ghost use Rattle.clause_words.specs.Number.{var_count_of};
-ghost use Rattle.clause_words.specs.Meaning.{meaning};
+ghost use Rattle.placement_clauses.specs.Truth.{AllHold, truth_in};
+ghost use Rattle.placement_clauses.specs.Number.{var_count_of};
+ghost use Rattle.placement_clauses.specs.Meaning.{meaning};
 ghost use Rattle.clause_encode.specs.PlacementList.{list_of};
 
 use crate::cells::{add_class_1, add_class_2};
 use crate::flows::add_class_4;
 use crate::givens::add_class_3;
-use crate::numbers::vars_of;
 use crate::traps::add_class_5;
+use crate::variable_numbers::vars_of;
 use clause_base::ClauseList;
 use flow_graph::Program;
 use io_base::OutOfMemory;
@@ -26,11 +26,11 @@ pub fn var_count(program: &Program) -> u32
     vars_of(u32::from(program.len()))
 }
 
-/// The placement clauses of a program, in their order. The values that a legal placement gives the
-/// variables make each of them true.
+/// The placement clauses of a program, in their order (this project's own choice). The values that a
+/// legal placement gives the variables make each of them true. It fails only for want of memory.
 pub fn encode(alloc: Global, program: &Program) -> Result<ClauseList, OutOfMemory>
     ensures clauses { IfOk result (λ list. list ≡ list_of (graph_of program.now)) }
-    ensures sound { (place : List Position) → IsLegal (graph_of program.now) place → IfOk result (λ list. AllHold (value_in (meaning (graph_of program.now) place)) list.clauses) }
+    ensures sound { (place : List Position) → IsLegal (graph_of program.now) place → IfOk result (λ list. AllHold (truth_in (meaning (graph_of program.now) place)) list.clauses) }
 {
     let labels = u32::from(program.len());
     let mut list = ClauseList::new(alloc, vars_of(labels))?;

@@ -1,12 +1,14 @@
 //! The first target of a flow statement that is a label.
 ghost use Rattle.std.specs.Prelude.{◌≡◌, ◌<◌, ◌^◌, length, Some, slice_get};
 ghost use Rattle.flow_graph.specs.Targets.{HasLabel};
-ghost use Rattle.clause_words.specs.FirstLabel.{first_real, first_label};
+ghost use Rattle.placement_clauses.specs.FirstLabel.{first_real, first_label};
 
 /// The first target that is a label, and its outcome.
 #[derive(Clone, Copy)]
 pub(crate) struct FirstLabel {
+    /// The outcome, from 0.
     pub outcome: u32,
+    /// The label, from 0.
     pub label: u32,
 }
 

@@ -1,23 +1,24 @@
 //! The fourth class: each instruction has a jump that lands on its labels.
-ghost use Rattle.std.specs.Prelude.{◌≡◌, ◌<◌, ◌≤◌, ◌^◌, ◌+◌, ◌*◌, ◌∷◌, ◌++◌, ℕ, length, OnOk, IfOk, Some, slice_get};
+ghost use Rattle.std.specs.Prelude.{◌≡◌, ◌<◌, ◌≤◌, ◌^◌, ◌+◌, ◌*◌, ◌++◌, ℕ, length, OnOk, Some, slice_get};
 ghost use Rattle.mcu_jumps.specs.Landing.{outcomes_of};
-ghost use Rattle.mcu_jumps.specs.declared.codes.Kind.TheVariants.{Enable};
+ghost use Rattle.mcu_jumps.specs.declared.kinds.Kind.TheVariants.{Enable};
 ghost use Rattle.flow_graph.specs.Graph.{graph_of};
 ghost use Rattle.flow_graph.specs.Targets.{AreTargets, HasLabel};
 ghost use Rattle.flow_graph.specs.Valid.{IsInstr};
-ghost use Rattle.clause_words.specs.Upto.{upto, each_of};
-ghost use Rattle.clause_words.specs.Number.{minus, row_var, col_var, var_count_of};
-ghost use Rattle.clause_words.specs.Shape.{same};
-ghost use Rattle.clause_words.specs.FirstLabel.{first_real, first_label};
-ghost use Rattle.clause_words.specs.Clauses.{reach_lit, reach_clauses, col_clause, col_clauses, outcome_clauses, target_clauses, test_clauses, goto_clauses, instr_clauses, class_4};
+ghost use Rattle.placement_clauses.specs.Upto.{upto, each_of};
+ghost use Rattle.placement_clauses.specs.Number.{col_var, var_count_of};
+ghost use Rattle.placement_clauses.specs.Shape.{same};
+ghost use Rattle.placement_clauses.specs.FirstLabel.{first_real, first_label};
+ghost use Rattle.placement_clauses.specs.Clauses.{reach_clauses, col_clause, col_clauses, outcome_clauses, target_clauses, test_clauses, goto_clauses, instr_clauses, class_4};
 ghost use Rattle.clause_encode.specs.Adds.{Adds};
 
 use crate::first_label::{FirstLabel, first_label_of};
 use crate::givens::add_at;
-use crate::numbers::{col_var, goto_var, negative, positive, row_var};
-use crate::reaching::{col_of, keeps_half, reaches};
+use crate::literals::reach_at;
+use crate::reaching::{col_of, keeps_half};
 use crate::shapes::{add_one, add_same, add_same_where, add_three, add_two, add_unit};
-use clause_base::{ClauseList, Lit};
+use crate::variable_numbers::{col_var, negative, positive, row_var, way_var};
+use clause_base::ClauseList;
 use flow_graph::{Instr, Program};
 use io_base::OutOfMemory;
 use mcu_jumps::Kind;
@@ -31,9 +32,9 @@ fn add_goto(list: &mut ClauseList, labels: u32, s: u32, m: u32) -> Result<(), Ou
     requires vars { list.old.vars ≡ var_count_of labels }
     ensures { OnOk result (Adds list.old list.new (goto_clauses labels s m)) }
 {
-    let within_col = goto_var(labels, s, 0);
-    let to_row_0 = goto_var(labels, s, 1);
-    let within_row = goto_var(labels, s, 2);
+    let within_col = way_var(labels, s, 0);
+    let to_row_0 = way_var(labels, s, 1);
+    let within_row = way_var(labels, s, 2);
     add_three(
         list,
         positive(within_col),
@@ -45,24 +46,6 @@ fn add_goto(list: &mut ClauseList, labels: u32, s: u32, m: u32) -> Result<(), Ou
     add_two(list, negative(to_row_0), negative(col_var(m, 15)))?;
     add_same_where(list, within_row, 32, row_var(s, 0), row_var(m, 0))?;
     Ok(())
-}
-
-// The literals of the clause of one row: not that row, or a row that is reached from it.
-fn reach_lits(alloc: Global, kind: Kind, s: u32, x: u32, r: u32) -> Result<Vec<Lit>, OutOfMemory>
-    requires from { s < 512 }
-    requires to { x < 512 }
-    requires row { r < 32 }
-    ensures { IfOk result (λ lits. lits.items ≡ minus (row_var s r) ∷ upto 32 (reach_lit kind x r)) }
-{
-    let first = row_var(x, 0);
-    let mut lits = Vec::new(alloc);
-    lits.push(negative(row_var(s, r)))?;
-    for q in 0..32 {
-        if reaches(kind, r, q) {
-            lits.push(positive(first + q))?;
-        }
-    }
-    Ok(lits)
 }
 
 // A label stands in a row that is reached from the row of an instruction.
@@ -81,8 +64,8 @@ fn add_reach(
     ensures { OnOk result (Adds list.old list.new (reach_clauses kind s x)) }
 {
     for r in 0..32 {
-        let lits = reach_lits(alloc, kind, s, x, r)?;
-        add_one(list, &lits)?;
+        let lits = reach_at(alloc, kind, s, x, r)?;
+        add_one(list, lits.as_slice())?;
     }
     Ok(())
 }

@@ -2,13 +2,13 @@
 ghost use Rattle.std.specs.Prelude.{◌≡◌, ◌<◌, ◌≤◌, ◌^◌, ◌+◌, ◌*◌, length, OnOk, Some, ℕ, slice_get};
 ghost use Rattle.flow_graph.specs.declared.pinning.Pin.{Pin};
 ghost use Rattle.flow_graph.specs.Graph.{graph_of};
-ghost use Rattle.clause_words.specs.Upto.{upto, each_of};
-ghost use Rattle.clause_words.specs.Number.{var_count_of};
-ghost use Rattle.clause_words.specs.Clauses.{at_clauses, pin_clauses, bound_clauses, class_3};
+ghost use Rattle.placement_clauses.specs.Upto.{upto, each_of};
+ghost use Rattle.placement_clauses.specs.Number.{var_count_of};
+ghost use Rattle.placement_clauses.specs.Clauses.{at_clauses, pin_clauses, bound_clauses, class_3};
 ghost use Rattle.clause_encode.specs.Adds.{Adds};
 
-use crate::numbers::{col_var, negative, positive, row_var};
 use crate::shapes::add_unit;
+use crate::variable_numbers::{col_var, negative, positive, row_var};
 use clause_base::ClauseList;
 use flow_graph::{Pin, Program};
 use io_base::OutOfMemory;

@@ -1,14 +1,22 @@
-//! The literals of one clause, for the clauses that are made by their numbers.
+//! The literals of one clause.
+//!
+//! Eight of them lie in place, more than most clauses have: one to three. Only clauses over many rows or columns
+//! take memory.
 ghost use Rattle.std.specs.Prelude.{◌≡◌, ◌<◌, ◌≤◌, ◌^◌, ◌+◌, [], ◌∷◌, slice_get, Some, IfOk};
-ghost use Rattle.clause_words.specs.Number.{pairs_below};
-ghost use Rattle.clause_words.specs.Shape.{any_of, no_two};
+ghost use Rattle.placement_clauses.specs.Upto.{upto};
+ghost use Rattle.placement_clauses.specs.Number.{pairs_below, minus, row_var};
+ghost use Rattle.placement_clauses.specs.Shape.{any_of, no_two};
+ghost use Rattle.placement_clauses.specs.Clauses.{reach_lit};
 
-use crate::numbers::{negative, positive};
+use crate::reaching::reaches;
+use crate::variable_numbers::{negative, positive, row_var};
 use clause_base::Lit;
 use io_base::OutOfMemory;
+use mcu_jumps::Kind;
 use smallvec::SmallVec;
 use std::alloc::Global;
 
+/// A clause of one literal.
 pub(crate) fn one_lit(alloc: Global, a: Lit) -> Result<SmallVec<Lit, 8>, OutOfMemory>
     ensures { IfOk result (λ lits. lits.items ≡ a ∷ []) }
 {
@@ -16,6 +24,7 @@ pub(crate) fn one_lit(alloc: Global, a: Lit) -> Result<SmallVec<Lit, 8>, OutOfMe
     Ok(lits)
 }
 
+/// A clause of two literals.
 pub(crate) fn two_lits(alloc: Global, a: Lit, b: Lit) -> Result<SmallVec<Lit, 8>, OutOfMemory>
     ensures { IfOk result (λ lits. lits.items ≡ a ∷ b ∷ []) }
 {
@@ -23,6 +32,7 @@ pub(crate) fn two_lits(alloc: Global, a: Lit, b: Lit) -> Result<SmallVec<Lit, 8>
     Ok(lits)
 }
 
+/// A clause of three literals.
 pub(crate) fn three_lits(
     alloc: Global,
     a: Lit,
@@ -44,6 +54,30 @@ pub(crate) fn any_at(alloc: Global, count: u32, first: u32) -> Result<SmallVec<L
     let mut lits = SmallVec::new(alloc);
     for k in 0..count {
         lits.push(positive(first + k))?;
+    }
+    Ok(lits)
+}
+
+/// The clause of one row: not that row, or a row that is reached from it.
+pub(crate) fn reach_at(
+    alloc: Global,
+    kind: Kind,
+    s: u32,
+    x: u32,
+    r: u32,
+) -> Result<SmallVec<Lit, 8>, OutOfMemory>
+    requires from { s < 512 }
+    requires to { x < 512 }
+    requires row { r < 32 }
+    ensures { IfOk result (λ lits. lits.items ≡ minus (row_var s r) ∷ upto 32 (reach_lit kind x r)) }
+{
+    let first = row_var(x, 0);
+    let mut lits = SmallVec::new(alloc);
+    lits.push(negative(row_var(s, r)))?;
+    for q in 0..32 {
+        if reaches(kind, r, q) {
+            lits.push(positive(first + q))?;
+        }
     }
     Ok(lits)
 }

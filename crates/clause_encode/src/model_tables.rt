@@ -2,20 +2,20 @@
 ghost use Rattle.std.specs.Prelude.{◌≡◌, ◌≤◌, All, IsTrue, length};
 ghost use Rattle.std.specs.List.{list_any};
 ghost use Rattle.clause_base.specs.Lit.{var_of};
-ghost use Rattle.clause_words.specs.Truth.{lit_holds, AllHold, value_in};
+ghost use Rattle.placement_clauses.specs.Truth.{lit_holds, AllHold, truth_in};
 
 use crate::{encode, place_of};
 use clause_base::{ClauseList, Lit};
-use clause_words::Truths;
 use flow_graph::Program;
 use place_model::Placement;
+use placement_clauses::Truths;
 use std::alloc::Global;
 use std::test::Fail;
 
 // Whether a literal is true.
 fn is_true(lit: Lit, values: &[bool]) -> bool
     requires { var_of lit ≤ length values.now }
-    ensures { result ≡ lit_holds (value_in values.now) lit }
+    ensures { result ≡ lit_holds (truth_in values.now) lit }
 {
     values[lit.var() as usize - 1] == lit.is_positive()
 }
@@ -23,7 +23,7 @@ fn is_true(lit: Lit, values: &[bool]) -> bool
 // Whether some literal of a clause is true.
 fn holds(clause: &[Lit], values: &[bool]) -> bool
     requires { All (λ z. var_of z ≤ length values.now) clause.now }
-    ensures { result ≡ list_any (lit_holds (value_in values.now)) clause.now }
+    ensures { result ≡ list_any (lit_holds (truth_in values.now)) clause.now }
 {
     clause.iter().any(|lit| is_true(*lit, values))
 }
@@ -31,7 +31,7 @@ fn holds(clause: &[Lit], values: &[bool]) -> bool
 // Whether values make every clause of a list true.
 fn all_hold(list: &ClauseList, values: &[bool]) -> bool
     requires { length values.now ≡ list.now.vars }
-    ensures { IsTrue result → AllHold (value_in values.now) list.now.clauses }
+    ensures { IsTrue result → AllHold (truth_in values.now) list.now.clauses }
 {
     for place in 0..list.len() {
         if holds(list.get(place + 1), values) {

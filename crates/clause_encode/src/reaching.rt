@@ -1,7 +1,7 @@
 //! Which rows and columns the jumps of a flow statement reach (the 3001's jump table).
 ghost use Rattle.std.specs.Prelude.{◌≡◌, ◌<◌};
 ghost use Rattle.mcu_jumps.specs.Landing.{outcomes_of};
-ghost use Rattle.clause_words.specs.Reaching.{reaches, col_of, keeps_half};
+ghost use Rattle.placement_clauses.specs.Reaching.{reaches, col_of, keeps_half};
 
 use mcu_jumps::Kind;
 

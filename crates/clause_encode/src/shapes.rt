@@ -1,12 +1,13 @@
 //! Clauses added by their shapes. A run of variables is given by its first one.
-ghost use Rattle.std.specs.Prelude.{◌≡◌, ◌≢◌, ◌<◌, ◌≤◌, ◌^◌, ◌+◌, ◌-◌, [], ◌∷◌, length, OnOk, IfOk};
+ghost use Rattle.std.specs.Prelude.{◌≡◌, ◌≢◌, ◌<◌, ◌≤◌, ◌^◌, ◌+◌, ◌-◌, [], ◌∷◌, length, OnOk};
 ghost use Rattle.clause_base.specs.Lit.{var_of};
 ghost use Rattle.clause_base.specs.Clauses.{IsClause};
-ghost use Rattle.clause_words.specs.Number.{plus, minus};
-ghost use Rattle.clause_words.specs.Shape.{one, any_of, no_two, same, same_where, apart_unless};
+ghost use Rattle.placement_clauses.specs.Number.{plus, minus};
+ghost use Rattle.placement_clauses.specs.Shape.{one, any_of, no_two, same, same_where, apart_unless};
 ghost use Rattle.clause_encode.specs.Adds.{Adds};
 
-use crate::numbers::{negative, positive};
+use crate::literals::any_at;
+use crate::variable_numbers::{negative, positive};
 use clause_base::{ClauseList, Lit};
 use io_base::OutOfMemory;
 use std::alloc::Global;
@@ -53,19 +54,6 @@ pub(crate) fn add_three(list: &mut ClauseList, a: Lit, b: Lit, c: Lit) -> Result
     add_one(list, &[a, b, c])
 }
 
-// The literals of a run of variables.
-fn any_lits(alloc: Global, count: u32, first: u32) -> Result<Vec<Lit>, OutOfMemory>
-    requires first { 0 < first }
-    requires room { first + count ≤ 2 ^ 31 }
-    ensures { IfOk result (λ lits. lits.items ≡ any_of count first) }
-{
-    let mut lits = Vec::new(alloc);
-    for k in 0..count {
-        lits.push(positive(first + k))?;
-    }
-    Ok(lits)
-}
-
 /// Some variable of a run is true.
 pub(crate) fn add_any_of(
     alloc: Global,
@@ -78,8 +66,8 @@ pub(crate) fn add_any_of(
     requires room { first + count ≤ list.old.vars + 1 }
     ensures { OnOk result (Adds list.old list.new (one (any_of count first))) }
 {
-    let lits = any_lits(alloc, count, first)?;
-    add_one(list, &lits)
+    let lits = any_at(alloc, count, first)?;
+    add_one(list, lits.as_slice())
 }
 
 /// No two variables of a run are true.

@@ -3,15 +3,15 @@ ghost use Rattle.std.specs.Prelude.{◌≡◌, ◌≢◌, ◌<◌, ◌≤◌, �
 ghost use Rattle.mcu_jumps.specs.Landing.{outcomes_of};
 ghost use Rattle.flow_graph.specs.Graph.{graph_of};
 ghost use Rattle.flow_graph.specs.Valid.{IsInstr};
-ghost use Rattle.clause_words.specs.Upto.{upto, each_of};
-ghost use Rattle.clause_words.specs.Number.{var_count_of};
-ghost use Rattle.clause_words.specs.Clauses.{trap_pair, trap_of, trap_outcome, trap_clauses, class_5};
+ghost use Rattle.placement_clauses.specs.Upto.{upto, each_of};
+ghost use Rattle.placement_clauses.specs.Number.{var_count_of};
+ghost use Rattle.placement_clauses.specs.Clauses.{trap_pair, trap_of, trap_outcome, trap_clauses, class_5};
 ghost use Rattle.clause_encode.specs.Adds.{Adds};
 
 use crate::first_label::{FirstLabel, first_label_of};
-use crate::numbers::{col_var, negative, pair_var, positive};
 use crate::reaching::{col_of, keeps_half};
 use crate::shapes::{add_three, add_two};
+use crate::variable_numbers::{col_var, negative, pair_var, positive};
 use clause_base::ClauseList;
 use flow_graph::{Instr, Program};
 use io_base::OutOfMemory;

@@ -1,10 +1,10 @@
 //! Worked examples: the counts and clauses of small programs, from the rules by hand.
 use crate::model_tables::placed;
 use crate::{clause_at, clause_count, encode, var_count};
-use clause_words::Truths;
 use flow_graph::Program;
 use mcu_jumps::Cell;
 use micro_asm::assemble;
+use placement_clauses::Truths;
 use std::alloc::Global;
 use std::process::Abort;
 use std::test::Fail;

@@ -12,6 +12,7 @@ abbrev pub group_of_selector : ℕ → ℕ
 group_of_selector selector =
     if nat_lt selector 10 then 1 else if nat_lt selector 12 then 2 else if nat_lt selector 14 then 1 else 3
 
+-- the group of a code
 abbrev pub group_of : ℕ → ℕ
 group_of code = group_of_selector (code % 16)
 
@@ -19,6 +20,7 @@ group_of code = group_of_selector (code % 16)
 abbrev pub register_of_selector : ℕ → Reg
 register_of_selector selector = if nat_lt selector 10 then R selector else if selector % 2 == 0 then T else Ac
 
+-- the register that a code names
 abbrev pub register_of : ℕ → Reg
 register_of code = register_of_selector (code % 16)
 

@@ -28,7 +28,7 @@ bit b = if b then 1 else 0
 abbrev pub inputs_of : ℕ → ℕ → ℕ → Bool → Bool → Inputs
 inputs_of k m i ci li = record { k = k; m = m; i = i; ci = bit ci; li = bit li }
 
--- Rn in group 1, M in group 2, AT in group 3
+-- Rn (R0 to R9, T or AC) in group 1, M in group 2, AT (T or AC) in group 3
 unfoldable pub source_word : ℕ → ℕ → Registers → ℕ
 source_word code m w = if group_of code == 2 then m else get w (register_of code)
 
@@ -99,7 +99,7 @@ link n code b w j =
     sum_carry (operand_a (4 ^ n - 1) code b w) (operand_b (4 ^ n - 1) code b w) b.ci (j + 1)
     else or_carry (test_word code b w) b.ci (j + 1)
 
--- in function 1, groups 1 and 2, MAR takes K or the source
+-- in function 1, groups 1 and 2, MAR takes K and the source, or'ed bit by bit
 unfoldable pub mar_after : ℕ → Inputs → Registers → ℕ
 mar_after code b w =
     if function_of code == 1 && not (group_of code == 3) then bit_or b.k (source_word code b.m w) else w.mar

@@ -6,7 +6,7 @@ ghost use Rattle.cpe_slice.specs.FunctionCode.{function_of, group_of, register_o
 use crate::register::Reg;
 use std::marker::Model;
 
-/// A function code F6..F0. Contracts see it as its number.
+/// A function code F6..F0 of the 3002 (data sheet). Contracts see it as its number, 0 to 127.
 #[derive(Clone, Copy, PartialEq, Eq, Debug)]
 pub struct Fn7 {
     code: u8,
@@ -25,7 +25,7 @@ impl Model for Fn7 {
 }
 
 impl Fn7 {
-    /// The code of that number, where it has seven bits.
+    /// The code of that number; None above 127.
     pub fn new(code: u8) -> Option<Fn7>
         ensures some { IsSome result ↔ (code < 128) }
         ensures value { IfSome result (λ f. f ≡ code) }
@@ -33,7 +33,8 @@ impl Fn7 {
         if code < 128 { Some(Fn7 { code }) } else { None }
     }
 
-    /// The code of a function of a register in a group. R0 to R9 are in group 1 alone; T and AC are in all three.
+    /// The code of a function of a register in a group; None where the function is above 7 or the group has no such
+    /// register. R0 to R9 are in group 1 alone; T and AC are in all three.
     pub fn of(function: u8, group: u8, reg: Reg) -> Option<Fn7>
         ensures some { IsSome result ↔ ((function < 8) × HasRegister group reg) }
         ensures value { IfSome result (λ f. f ≡ 16 * function + selector_of group reg) }
@@ -50,7 +51,7 @@ impl Fn7 {
         })
     }
 
-    /// The number F6..F0.
+    /// The number F6..F0, 0 to 127.
     pub fn code(self) -> u8
         ensures value { result ≡ self }
         ensures below { result < 128 }

@@ -5,7 +5,7 @@ ghost use Rattle.std.specs.Prelude.{◌≡◌, ℕ, ◌<◌, List, replicate};
 use crate::register::Reg;
 use std::marker::Model;
 
-/// The registers of a slice, each two bits wide.
+/// The registers of a slice, each two bits wide, so 0 to 3.
 #[derive(Clone, Copy, PartialEq, Eq, Debug)]
 pub struct Slice {
     r: [u8; 10],
@@ -30,7 +30,7 @@ impl Slice {
     ghost use Rattle.cpe_slice.specs.Registers.{AllBelow, get, set};
     ghost use Rattle.cpe_slice.specs.FunctionCode.{IsRegister};
 
-    /// A slice whose registers all hold 0.
+    /// A slice whose registers all hold 0, as at the start (this project's own choice).
     pub fn zero() -> Slice
         ensures value { result ≡ record { r = replicate 10 0; t = 0; ac = 0; mar = 0 } }
         ensures below { AllBelow 4 result }

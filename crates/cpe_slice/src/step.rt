@@ -14,7 +14,7 @@ use crate::slice::Slice;
 pub struct SliceOut {
     /// The registers after the clock.
     pub slice: Slice,
-    /// Carry out; false in the right shift, which disables it.
+    /// Carry out; false in the right shift, which disables it. In functions 6 and 7 it is this project's own choice.
     pub co: bool,
     /// Right out, the bit that the right shift hands to the slice below; false outside the shift, where it is disabled.
     pub ro: bool,
@@ -35,8 +35,9 @@ macro_rules! logic_cases {
 impl Slice {
     /// One clock of the slice. Every register is read as it stood before the clock.
     ///
-    /// `k`, `m` and `i` are the buses, `ci` is carry in, and `li` is left in, the bit that the right shift takes from
-    /// the slice above. The data sheet gives the right shift for a K bus of 0 alone.
+    /// `k`, `m` and `i` are the buses, each 0 to 3, `ci` is carry in, and `li` is left in, the bit that the right
+    /// shift takes from the slice above. The right shift is modelled for a K bus of 0 alone
+    /// (this project's own choice).
     #[tactic(auto, unfolding(crate::specs::WordStep::array_step))]
     pub fn step(&self, f: Fn7, k: u8, m: u8, i: u8, ci: bool, li: bool) -> SliceOut
         requires buses { (k < 4) × (m < 4) × (i < 4) }
@@ -128,7 +129,7 @@ impl Slice {
         logic_cases!(f, source & masked, k & source, masked, source & masked)
     }
 
-    // Rn, M or AT, by the group.
+    // Rn (R0 to R9, T or AC), M or AT (T or AC), by the group.
     #[tactic(auto, unfolding(crate::specs::WordStep::source_word))]
     fn source_word(&self, f: Fn7, m: u8) -> u8
         requires { m < 4 }

@@ -44,8 +44,8 @@ fn codes_and_their_parts(rt: HostRuntime) -> Result<(), Fail> {
     Ok(())
 }
 
-// A clock in each row: the function code, the buses K, M and I, CI and LI; before the clock the register among R0 to R9 that
-// the code names (R0 where it names none), T, AC and MAR; the same four after it; CO and RO.
+// A clock in each row: the function code, the buses K, M and I, CI and LI; before the clock the register among R0 to
+// R9 that the code names (R0 where it names none), T, AC and MAR; the same four after it; CO and RO.
 const CLOCKS: [[u8; 16]; 24] = [
     [0x02, 3, 3, 1, 1, 0, 3, 2, 2, 2, 2, 2, 2, 2, 1, 0],
     [0x0b, 3, 3, 2, 0, 0, 3, 0, 0, 3, 3, 0, 3, 3, 0, 0],

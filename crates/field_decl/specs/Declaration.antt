@@ -1,11 +1,11 @@
--- A declaration: the chips and the microword that a program is for.
+-- A declaration: the chips and the microword that a program is for. Its ranges are this project's own choice.
 use Rattle.std.specs.Prelude.{◌≡◌, ℕ, ◌*◌, ◌%◌, ◌<◌, ◌≤◌, true, ◌||◌, ◌==◌, List, Option, All}
 use Rattle.std.specs.List.{list_all}
 use Rattle.micro_lex.specs.Names.{IsName}
 use Rattle.field_decl.specs.declared.field.Field.{Field}
 use Rattle.field_decl.specs.Fields.{is_sized, are_distinct, word_bits, is_write}
 
--- what a declaration says: slices, width of the K bus, fields, words and bits of a PROM, place of the write field
+-- what a declaration says: slices, number of K bits, fields, words and bits of a PROM, place of the write field
 pub record Declaration : Type 0 where
   pub slices : ℕ
   pub kbus : ℕ

@@ -1,4 +1,4 @@
--- The forms of the lines that declare chips, K bus, fields, PROMs and the write field.
+-- The forms of the lines that declare chips, K bus, fields, PROMs and the write field (this project's own choice).
 use Rattle.std.specs.Prelude.{ℕ, List, [], ◌∷◌, Result, Ok, Err, codes, if◌then◌else◌}
 use Rattle.std.specs.Str.{bytes_eq}
 use Rattle.field_decl.specs.declared.word.Word.{Word}

@@ -1,4 +1,4 @@
--- What the directives of the earlier lines declare.
+-- What the directives of the earlier lines declare, and the defaults for the rest (this project's own choice).
 use Rattle.std.specs.Prelude.{◌≡◌, ℕ, List, [], ◌∷◌, ◌++◌, Option, Some, None, unwrap_or, option_and_then}
 use Rattle.std.specs.List.{filter_map}
 use Rattle.field_decl.specs.declared.directive.Directive.{Directive}
@@ -17,26 +17,32 @@ pub record Declared : Type 0 where
 
 -- ---- each part, of the list of the earlier directives
 
+-- the number of slices, where the directive gives it
 abbrev pub slices_in : Directive → Option ℕ
 slices_in (directives.Slices slices) = Some slices
 slices_in _ = None
 
+-- the number of K bits, where the directive gives it
 abbrev pub kbus_in : Directive → Option ℕ
 kbus_in (directives.KBus kbus) = Some kbus
 kbus_in _ = None
 
+-- the field, where the directive declares one
 abbrev pub field_in : Directive → Option Field
 field_in (directives.Field name width default) = Some (record { name = name; width = width; default = default })
 field_in _ = None
 
+-- words and bits of the PROMs, where the directive gives them
 abbrev pub prom_in : Directive → Option (ℕ × ℕ)
 prom_in (directives.Prom words bits) = Some (words, bits)
 prom_in _ = None
 
+-- the name of the write field, where the directive gives it
 abbrev pub write_in : Directive → Option (List ℕ)
 write_in (directives.Write name) = Some name
 write_in _ = None
 
+-- the first of a list, where there is one
 abbrev pub first : {X : Type 0} → List X → Option X
 first [] = None
 first (x ∷ xs) = Some x
@@ -58,6 +64,7 @@ abbrev pub given_or : {X : Type 0} → Option X → X → Option X
 given_or (Some x) y = Some x
 given_or None y = Some y
 
+-- what is declared with one directive more
 abbrev pub with_directive : Declared → Directive → Declared
 with_directive declared (directives.Slices slices) = record declared { slices = given_or declared.slices slices }
 with_directive declared (directives.KBus kbus) = record declared { kbus = given_or declared.kbus kbus }
@@ -82,7 +89,8 @@ declaration_with slices declared = record {
 abbrev pub FitsTogether : Declaration → Type 0
 FitsTogether d = IsDeclaration d.slices d.kbus d.fields d.prom_words d.prom_bits d.write
 
--- what was accepted so far fits together, one slice taken where none are given yet, and the K bus comes after the slices
+-- what was accepted so far fits together, one slice taken where none are given yet, and the K bus comes after the
+-- slices
 pub record IsSound (declared : Declared) : Type 0 where
   pub fits : FitsTogether (declaration_with (unwrap_or declared.slices 1) declared)
   pub ordered : declared.slices ≡ None → declared.kbus ≡ None

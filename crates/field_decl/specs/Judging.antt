@@ -1,4 +1,4 @@
--- Which directives are refused after the earlier ones, and why.
+-- Which directives are refused after the earlier ones, and why (this project's own choice).
 use Rattle.std.specs.Prelude.{ℕ, ◌+◌, ◌*◌, ◌%◌, ◌^◌, not, ◌&&◌, ◌||◌, ◌==◌, nat_lt, nat_le, List, Option, Some, None, is_some, is_none, unwrap_or, Result, if◌then◌else◌}
 use Rattle.std.specs.List.{list_any}
 use Rattle.field_decl.specs.declared.directive.Directive.{Directive}

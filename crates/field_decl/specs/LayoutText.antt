@@ -9,6 +9,7 @@ use Rattle.field_decl.specs.Declaration.{Declaration}
 abbrev pub name_run : List ℕ → Run
 name_run text = (text, Name)
 
+-- a decimal number as it is printed
 abbrev pub number_run : ℕ → Run
 number_run number = (decimal number, Number number)
 
@@ -16,18 +17,23 @@ number_run number = (decimal number, Number number)
 abbrev pub printed : List Run → List ℕ
 printed runs = spaced runs ++ 10 ∷ []
 
+-- the words of the line of the slices
 abbrev pub slices_runs : ℕ → List Run
 slices_runs slices = name_run (codes "slices") ∷ number_run slices ∷ []
 
+-- the words of the line of the K bits
 abbrev pub kbus_runs : ℕ → List Run
 kbus_runs kbus = name_run (codes "kbus") ∷ number_run kbus ∷ []
 
+-- the words of a field's line
 abbrev pub field_runs : Field → List Run
 field_runs field = name_run (codes "field") ∷ name_run field.name ∷ number_run field.width ∷ number_run field.default ∷ []
 
+-- the words of the line of the PROMs
 abbrev pub prom_runs : ℕ → ℕ → List Run
 prom_runs words bits = name_run (codes "prom") ∷ number_run words ∷ number_run bits ∷ []
 
+-- the words of the line of the write field
 abbrev pub write_runs : List ℕ → List Run
 write_runs name = name_run (codes "write") ∷ name_run name ∷ []
 
@@ -41,6 +47,7 @@ abbrev pub write_line : Option Field → List ℕ
 write_line None = []
 write_line (Some field) = printed (write_runs field.name)
 
+-- the line of the write field, by its place among the fields, where there is one
 abbrev pub write_text : Option ℕ → List Field → List ℕ
 write_text None fields = []
 write_text (Some place) fields = write_line (slice_get fields place)

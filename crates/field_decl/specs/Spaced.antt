@@ -1,4 +1,4 @@
--- A line as it is printed: runs with one space between each two.
+-- A line as it is printed: runs with one space between each two (this project's own format).
 use Rattle.std.specs.Prelude.{◌≡◌, ℕ, ◌+◌, ◌<◌, true, List, [], ◌∷◌, ◌++◌, length, Ok}
 use Rattle.std.specs.List.{list_all, AllByRecursion}
 use Rattle.micro_lex.specs.declared.token.Token.{Token}

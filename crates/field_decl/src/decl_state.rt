@@ -107,7 +107,7 @@ impl DeclState {
         Ok(())
     }
 
-    /// The bits of the microword so far.
+    // The bits of the microword so far.
     fn word_bits(&self) -> u32
         ensures bits { result ≡ word_bits (unwrap_or self.now.kbus 1) self.now.fields }
         ensures fits { result ≤ 96 }
@@ -151,14 +151,14 @@ impl DeclState {
         }
     }
 
-    /// The slices, where they are given.
+    /// The slices, 1 to 16, where they are given.
     pub fn slices(&self) -> Option<u8>
         ensures { result ≡ self.now.slices }
     {
         self.slices
     }
 
-    /// The K bits of the microword so far.
+    /// How many K bits the microword has so far: 1 where no `kbus` is given.
     pub fn kbus(&self) -> u8
         ensures kbus { result ≡ unwrap_or self.now.kbus 1 }
         ensures shared { (slices : ℕ) → self.now.slices ≡ Some slices → IsShared slices result }
@@ -176,7 +176,7 @@ impl DeclState {
         self.fields.as_slice()
     }
 
-    /// The place of the write field.
+    // The place of the write field.
     fn write_place(&self) -> Option<u8>
         ensures { result ≡ option_and_then (write_place self.now.fields) self.now.write }
     {
@@ -189,7 +189,8 @@ impl DeclState {
         }
     }
 
-    /// The declaration, with the defaults for what is not given. Slices have no default.
+    /// The declaration, with the defaults for what is not given: 1 K bit, PROMs of 512 words of 4 bits, no write
+    /// field. Slices have no default; without them it is refused as `Slices`.
     pub fn finish(self) -> Result<Decl, AsmKind>
         ensures { GivesKind declaration_of result (completed self) }
     {

@@ -69,7 +69,8 @@ fn write_form(words: &[Word]) -> Result<Directive, AsmKind>
     }
 }
 
-/// The directive of this name with these words behind it.
+/// The directive of this name with these words behind it. `UnknownDirective` where there is none of the
+/// name, `Shape` where the words are not of its form.
 #[tactic(auto, unfolding(crate::specs::Directives::directive_form))]
 pub fn directive_form(name: &Name, words: &[Word]) -> Result<Directive, AsmKind>
     ensures { result ≡ directive_form name.now words.now }

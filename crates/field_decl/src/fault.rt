@@ -5,7 +5,8 @@ ghost use Rattle.field_decl.specs.declared.fault.LineFault.TheVariants.{OutOfMem
 
 use std::alloc::{AllocError, AllocFailed};
 
-/// Why a line of a source is refused. A layout has the lines of a source that declare.
+/// Why a line of a source is refused. A layout has the lines of a source that declare, so the kinds of
+/// both stand here, below the assembler.
 ///
 /// The first four are faults of the line's tokens, with the column from 1.
 #[derive(Clone, Copy, Debug, PartialEq, Eq)]
@@ -52,7 +53,7 @@ pub enum AsmKind {
     LabelTwice,
     /// More than 128 instructions.
     TooMany,
-    /// A function above 7, or a register group that is not 1 to 3.
+    /// A function above 7, or a register group that is not 1 to 3, behind `fn`.
     Function,
     /// No mnemonic of the table.
     Mnemonic,
@@ -87,7 +88,9 @@ pub enum AsmKind {
 /// Why one line is not taken: it is refused, or memory is wanting.
 #[derive(Clone, Copy, Debug, PartialEq, Eq)]
 pub enum LineFault {
+    /// The line is refused.
     Kind(AsmKind),
+    /// Memory was refused.
     OutOfMemory,
 }
 
@@ -96,6 +99,7 @@ pub enum LineFault {
 pub enum DeclFault {
     /// The first refused line, from 1, or line 0 for what the whole text lacks.
     At { line: u32, kind: AsmKind },
+    /// Memory was refused.
     OutOfMemory,
 }
 

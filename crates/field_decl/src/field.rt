@@ -7,11 +7,14 @@ ghost use Rattle.field_decl.specs.Fields.{widths, can_write, write_place};
 use crate::name::Name;
 use std::marker::Model;
 
-/// A user field: its name, its width in bits (1 to 32), and its value where no setting gives one.
+/// A user field of the microword.
 #[derive(Clone, Copy)]
 pub struct Field {
+    /// Its name.
     pub name: Name,
+    /// Its width in bits, 1 to 32 in a declaration.
     pub width: u8,
+    /// Its value where no setting gives one; in a declaration it fits the width.
     pub default: u32,
 }
 

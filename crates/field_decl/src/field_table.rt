@@ -31,6 +31,7 @@ impl Model for FieldTable {
 }
 
 impl FieldTable {
+    /// No fields.
     pub fn new(alloc: Global) -> FieldTable
         ensures { result ≡ [] }
     {
@@ -82,7 +83,7 @@ impl FieldTable {
     }
 }
 
-/// Adds a new name at the end.
+// Adds a new name at the end.
 fn add_name(names: &mut IndexSet<Name>, name: Name) -> Result<(), AllocFailed<Name>>
     requires { list_any (bytes_eq name) names.old.keys ≡ false }
     ensures added { OnOk result (names.new.keys ≡ names.old.keys ++ name ∷ []) }

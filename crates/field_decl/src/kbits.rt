@@ -5,7 +5,7 @@ ghost use Rattle.field_decl.specs.KBits.{spread_bits, gathered_bits, share_of, s
 
 use crate::decl::Decl;
 
-/// How many bus bits a K bit drives.
+// How many bus bits a K bit drives.
 fn share(decl: &Decl) -> u32
     ensures share { result ≡ share_of decl.now }
     ensures some { 0 < result }
@@ -14,7 +14,7 @@ fn share(decl: &Decl) -> u32
     2 * decl.slices as u32 / decl.kbus as u32
 }
 
-/// The mask of `count` K bits, each of which drives `share` bus bits.
+// The mask of `count` K bits, each of which drives `share` bus bits.
 fn spread_bits(share: u32, count: u32, kbits: u32) -> u64
     requires some_share { 0 < share }
     requires some_count { 0 < count }
@@ -31,7 +31,7 @@ fn spread_bits(share: u32, count: u32, kbits: u32) -> u64
     mask
 }
 
-/// The lowest bus bit of each of `count` K bits.
+// The lowest bus bit of each of `count` K bits.
 fn gathered_bits(share: u32, count: u32, mask: u128) -> u32
     requires some_share { 0 < share }
     requires narrow { share * count ≤ 32 }
@@ -45,7 +45,7 @@ fn gathered_bits(share: u32, count: u32, mask: u128) -> u32
     kbits as u32
 }
 
-/// The mask that the K bits put on the K bus.
+/// The mask that the K bits put on the K bus (this project's own choice). Bit j of `kbits` is K bit j.
 ///
 /// K bit j drives the bus bits from `j * (2 * slices / kbus)` up to, and not with, those of K bit j + 1.
 pub fn spread(decl: &Decl, kbits: u32) -> u32
@@ -57,7 +57,7 @@ pub fn spread(decl: &Decl, kbits: u32) -> u32
     spread_bits(share(decl), decl.kbus as u32, kbits) as u32
 }
 
-/// The K bits that put this mask on the K bus, or None where none do.
+/// The K bits, bit j of the result being K bit j, that put this mask on the K bus, or None where none do.
 pub fn gather(decl: &Decl, mask: u128) -> Option<u32>
     ensures found { IfSome result (λ kbits. IsGathered decl.now mask kbits) }
     ensures back { (kbits : ℕ) → IsGathered decl.now mask kbits → result ≡ Some kbits }

@@ -16,7 +16,7 @@ use crate::word::{Word, line_words};
 use micro_lex::next_line;
 use std::alloc::Global;
 
-/// The directive of a line with these words, or None where the line says nothing.
+// The directive of a line with these words, or None where the line says nothing.
 fn line_form(words: &[Word]) -> Result<Option<Directive>, AsmKind>
     ensures { result ≡ line_form words.now }
 {
@@ -31,7 +31,7 @@ fn line_form(words: &[Word]) -> Result<Option<Directive>, AsmKind>
     }
 }
 
-/// Takes one line more of a layout.
+// Takes one line more of a layout.
 #[tactic(auto, unfolding(crate::specs::LayoutSteps::after_line))]
 fn take_line(alloc: Global, state: &mut DeclState, line: &[u8]) -> Result<(), LineFault>
     requires { length line.now < 2 ^ 32 }
@@ -45,7 +45,7 @@ fn take_line(alloc: Global, state: &mut DeclState, line: &[u8]) -> Result<(), Li
     }
 }
 
-/// The fault, in its line.
+// The fault, in its line.
 fn fault_at(line: u32, fault: LineFault) -> DeclFault
     ensures { result ≡ fault_at line fault }
 {
@@ -55,7 +55,7 @@ fn fault_at(line: u32, fault: LineFault) -> DeclFault
     }
 }
 
-/// Takes all lines of a layout.
+// Takes all lines of a layout.
 #[tactic(auto, unfolding(crate::specs::LayoutSteps::after_lines))]
 fn take_lines(alloc: Global, bytes: &[u8]) -> Result<DeclState, DeclFault>
     requires { length bytes.now < 2 ^ 32 }
@@ -78,7 +78,8 @@ fn take_lines(alloc: Global, bytes: &[u8]) -> Result<DeclState, DeclFault>
 /// Reads a layout file: what it declares, or its first refused line.
 ///
 /// Its lines are `slices N`, `kbus B`, `field NAME WIDTH DEFAULT`, `prom 512 4` or `prom 512 8`,
-/// `write NAME`, and empty ones. A layout without slices is refused at line 0.
+/// `write NAME`, and empty ones. A layout without slices is refused at line 0. The format is this
+/// project's own.
 pub fn read_decl(alloc: Global, bytes: &[u8]) -> Result<Decl, DeclFault>
     requires { length bytes.now < 2 ^ 32 }
     ensures { GivesText declaration_of result (layout_of bytes.now) }

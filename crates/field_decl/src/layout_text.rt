@@ -88,7 +88,7 @@ fn print_write(text: &mut Vec<u8>, write: Option<u8>, fields: &[Field]) -> Resul
     }
 }
 
-/// The lines of slices, K bus, each field in order, PROMs, and the write field where there is one.
+// The lines of slices, K bus, each field in order, PROMs, and the write field where there is one.
 #[tactic(auto, unfolding(crate::specs::LayoutText::layout_text))]
 fn print_lines(alloc: Global, decl: &Decl) -> Result<Vec<u8>, OutOfMemory>
     ensures { IfOk result (λ text. text.items ≡ layout_text (declaration_of decl.now)) }

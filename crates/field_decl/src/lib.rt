@@ -1,8 +1,10 @@
-//! Declarations: the chips and the microword that a program is for, and the layout file.
+//! Declarations: the chips and the microword that a program is for, and the layout file. Layer: language.
 //!
 //! A directive is judged against all earlier ones. `read_decl` gives just what a layout text
 //! declares, or its first refused line; `print_decl` writes a text that reads as the same
-//! declaration. A `Decl` fits together by its type. The language is this project's own choice.
+//! declaration. A `Decl` fits together by its type. `spread` and `gather` turn K bits into a mask and
+//! back; `line_words` gives the words of a line. `AsmKind` has the refusals of whole sources too, since
+//! a layout's lines are a source's. The language is this project's own choice.
 #![tactic(auto)]
 
 mod decl;

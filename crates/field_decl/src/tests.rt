@@ -103,7 +103,7 @@ fn layouts_are_refused(rt: HostRuntime) -> Result<(), Fail> {
     Ok(())
 }
 
-/// The K bits are spread to the mask and gathered from it.
+// The K bits are spread to the mask and gathered from it.
 fn goes_both_ways(rt: &impl Abort, decl: &Decl, kbits: u32, mask: u32) {
     assert!(rt; decl.kbus == 2 && kbits < 4);
     assert_eq!(rt; spread(decl, kbits), mask);

@@ -14,11 +14,17 @@ use std::alloc::Global;
 /// A token as the forms of lines see it.
 #[derive(Clone, Copy)]
 pub enum Word {
+    /// A name, with its text.
     Name(Name),
+    /// A number, below 2^128.
     Number(u128),
+    /// `:`
     Colon,
+    /// `|`
     Bar,
+    /// `=`
     Equals,
+    /// `-`, which stands for the trap.
     Minus,
 }
 
@@ -49,7 +55,7 @@ pub fn words_from(alloc: Global, line: &[u8], tokens: &[Token]) -> Result<Vec<Wo
     Ok(words)
 }
 
-/// The line's refusal for a lexical fault.
+// The line's refusal for a lexical fault.
 fn lexical_fault(fault: LexFault) -> LineFault
     ensures { result ≡ lexical_fault fault }
 {

@@ -12,11 +12,11 @@ pub record AreValues (fields : List Field) (values : List ℕ) : Type 0 where
   pub held : (place value : ℕ) (field : Field) → slice_get fields place ≡ Some field → slice_get values place ≡ Some value → value < 2 ^ field.width
 
 -- an instruction of this declaration: some K bits give its mask, and the right shift has none
-pub record IsMicroword (decl : Declaration) (instr : Instr) : Type 0 where
+pub record FitsDeclaration (decl : Declaration) (instr : Instr) : Type 0 where
   pub kbits : IsTrue (has_kbits decl.slices decl.kbus instr.mask)
   pub shift : IsTrue (is_shift instr.func) → instr.mask ≡ 0
   pub values : AreValues decl.fields instr.values
 
 -- all instructions are of this declaration
-pub record AreMicrowords (decl : Declaration) (instrs : List Instr) : Type 0 where
-  pub each : (label : ℕ) (instr : Instr) → slice_get instrs label ≡ Some instr → IsMicroword decl instr
+pub record AllFitDeclaration (decl : Declaration) (instrs : List Instr) : Type 0 where
+  pub each : (label : ℕ) (instr : Instr) → slice_get instrs label ≡ Some instr → FitsDeclaration decl instr

@@ -1,4 +1,5 @@
--- What a microword orders of slices, flags and memory, whatever comes next.
+-- What a microword orders of slices, flags and memory, whatever comes next. The write field and the free cell are this
+-- project's own choice. The Rust type of an order is in the crate `flow_sim`.
 use Rattle.std.specs.Prelude.{ℕ, ◌==◌, Bool, false, List, map, Option, None, Some, slice_get}
 use Rattle.mcu_chip.specs.declared.flags.FlagCtl.{FlagCtl}
 use Rattle.mcu_chip.specs.declared.flags.FlagIn.TheVariants.{Hcz}

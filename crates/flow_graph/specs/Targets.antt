@@ -1,4 +1,4 @@
--- The targets of a flow statement: labels, and the trap.
+-- The targets of a flow statement: labels, and the trap (this project's own choice).
 use Rattle.std.specs.Prelude.{ℕ, ◌≡◌, ◌<◌, List, Option, Some, IsTrue, is_some, slice_get}
 use Rattle.std.specs.List.{list_any}
 

@@ -10,20 +10,25 @@ use mcu_chip::FlagCtl;
 use mcu_jumps::Kind;
 use std::marker::Model;
 
-/// An instruction: its name, the line of the source that it stands in, its microword but for the
-/// jump, and its flow statement.
+/// An instruction: what its line of the source says, in a program. Its jump is not fixed before the
+/// labels have cells.
 #[derive(Drop)]
 pub struct Instr {
+    /// The name of its label.
     pub name: Name,
+    /// Its line in the source, from 1.
     pub line: u32,
     /// The function code of the slices.
     pub func: Fn7,
-    /// What the K bits put on the K bus, a bit for each bit of the slices.
+    /// What the K bits put on the K bus, a bit for each bit of the slices, slice 0 lowest.
     pub mask: u32,
+    /// Its flag functions.
     pub ctl: FlagCtl,
     /// The values of the user fields, in the fields' order.
     pub values: FieldValues,
+    /// Its flow statement: what decides between its targets.
     pub kind: Kind,
+    /// Where each outcome leads.
     pub targets: Targets,
 }
 
@@ -43,12 +48,14 @@ impl Model for Instrs {
 }
 
 impl Instrs {
+    /// The instructions of this list.
     pub fn of(items: Vec<Instr>) -> Self
         ensures { result ≡ items.items }
     {
         Instrs { items }
     }
 
+    /// The instructions in source order.
     pub fn as_slice(&self) -> &[Instr]
         ensures { result.now ≡ self.now }
     {
@@ -63,7 +70,7 @@ fn first_label(targets: &[Option<u16>]) -> Option<usize>
     targets.iter().position(|target| target.is_some())
 }
 
-/// The first outcome whose target is a label.
+/// The first outcome, from 0, whose target is a label.
 pub fn first_real(instr: &Instr) -> u8
     requires count { length instr.now.targets ≡ outcomes_of instr.now.kind }
     requires label { HasLabel instr.now.targets }

@@ -7,7 +7,9 @@ use std::marker::Model;
 /// A label that is pinned to a cell.
 #[derive(Clone, Copy, Debug, PartialEq, Eq)]
 pub struct Pin {
+    /// The label, an instruction's place in source order from 0.
     pub label: u16,
+    /// Its cell.
     pub cell: Cell,
 }
 
@@ -27,12 +29,14 @@ impl Model for Pins {
 }
 
 impl Pins {
+    /// The pins of this list.
     pub fn of(items: Vec<Pin>) -> Self
         ensures { result ≡ items.items }
     {
         Pins { items }
     }
 
+    /// The pins in source order.
     pub fn as_slice(&self) -> &[Pin]
         ensures { result.now ≡ self.now }
     {

@@ -2,7 +2,7 @@
 ghost use Rattle.std.specs.Prelude.{◌≡◌, ◌<◌, length, slice_get, Some, IfSome, IfNone};
 ghost use Rattle.field_decl.specs.Decls.{declaration_of};
 ghost use Rattle.flow_graph.specs.Valid.{IsProgram};
-ghost use Rattle.flow_graph.specs.Microwords.{AreMicrowords};
+ghost use Rattle.flow_graph.specs.Microwords.{AllFitDeclaration};
 ghost use Rattle.flow_graph.specs.Labels.{HasName, HasNoName};
 
 use crate::{Instr, Instrs, Pins};
@@ -18,7 +18,7 @@ pub struct Program {
     pins: Pins,
     instrs: Instrs,
     pub ghost valid: { IsProgram rows start pins instrs },
-    pub ghost fits: { AreMicrowords (declaration_of decl) instrs },
+    pub ghost fits: { AllFitDeclaration (declaration_of decl) instrs },
 }
 
 impl Program {
@@ -27,7 +27,7 @@ impl Program {
     /// The program of these parts.
     pub fn new(decl: Decl, rows: u8, start: u16, pins: Pins, instrs: Instrs) -> Program
         requires valid { IsProgram rows start pins instrs }
-        requires fits { AreMicrowords (declaration_of decl) instrs }
+        requires fits { AllFitDeclaration (declaration_of decl) instrs }
         ensures { graph_of result ≡ record { decl = declaration_of decl; rows = rows; start = start; pins = pins; instrs = instrs } }
     {
         Program {
@@ -46,7 +46,7 @@ impl Program {
         &self.decl
     }
 
-    /// The row bound.
+    /// The row bound, 1 to 32.
     pub fn rows(&self) -> u8
         ensures { result ≡ (graph_of self.now).rows }
     {
@@ -60,12 +60,14 @@ impl Program {
         self.start
     }
 
+    /// The pins.
     pub fn pins(&self) -> &Pins
         ensures { result.now ≡ (graph_of self.now).pins }
     {
         &self.pins
     }
 
+    /// The instructions.
     pub fn instrs(&self) -> &Instrs
         ensures { result.now ≡ (graph_of self.now).instrs }
     {
@@ -87,7 +89,7 @@ impl Program {
         &self.instrs.as_slice()[label as usize]
     }
 
-    /// The label of a name.
+    /// The label of a name; None where no instruction has it.
     pub fn find(&self, name: &[u8]) -> Option<u16>
         ensures found { IfSome result (HasName (graph_of self.now).instrs name.now) }
         ensures missing { IfNone result (HasNoName (graph_of self.now).instrs name.now) }

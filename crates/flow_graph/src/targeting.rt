@@ -19,12 +19,14 @@ impl Model for Targets {
 }
 
 impl Targets {
+    /// The targets of this list.
     pub fn of(items: Vec<Option<u16>>) -> Self
         ensures { result ≡ items.items }
     {
         Targets { items }
     }
 
+    /// The targets in the outcomes' order.
     pub fn as_slice(&self) -> &[Option<u16>]
         ensures { result.now ≡ self.now }
     {

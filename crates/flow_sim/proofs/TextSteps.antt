@@ -2,7 +2,7 @@
 use Rattle.std.proofs.Common.{ℕ, suc, ◌≡◌, ◌+◌, ◌-◌, ◌<◌, List, [], ◌++◌, length, take, drop, refl, sym, ap, ◌∙◌, subst, append_assoc, IsTrue, arith}
 use Rattle.std.proofs.Math.Seq.{take-append_seam}
 use Rattle.std.proofs.lemmas.List.{take-append-drop, append-nil}
-use Rattle.io_base.specs.Sink.{SinkState, Flows, Adds, AddsPrefix}
+use Rattle.io_base.specs.Sink.{SinkState, SinkGoesOn, Adds, AddsPrefix}
 use Rattle.flow_graph.specs.Graph.{Graph}
 use Rattle.bus_script.specs.declared.buses.Buses.{Buses}
 use Rattle.bus_script.specs.Script.{BusScript}
@@ -47,7 +47,7 @@ abbrev pub Written : SinkState → SinkState → List ℕ → List ℕ → Type 
 Written start now whole left = IsTrue start.tells → (done : List ℕ) × (whole ≡ done ++ left) × (now.bytes ≡ start.bytes ++ done)
 
 -- a sink goes on from call to call
-pub goes_further : (start now new : SinkState) → Flows start now → Flows now new → Flows start new
+pub goes_further : (start now new : SinkState) → SinkGoesOn start now → SinkGoesOn now new → SinkGoesOn start new
 goes_further start now new before then = record { later = omega (arith, before.later, then.later); tells = then.tells ∙ before.tells }
 
 -- nothing is written yet, at the start
@@ -65,7 +65,7 @@ written_all start now whole left none told = λ t.
     front.2 ∙ ap (λ (done : List ℕ). start.bytes ++ done) (sym all)
 
 -- a piece more is written
-pub written_more : (start now new : SinkState) (whole piece left : List ℕ) → Flows start now → Written start now whole (piece ++ left) → Adds now new piece → Written start new whole left
+pub written_more : (start now new : SinkState) (whole piece left : List ℕ) → SinkGoesOn start now → Written start now whole (piece ++ left) → Adds now new piece → Written start new whole left
 written_more start now new whole piece left goes_on told adds = λ t.
     let front = told t in (
       front.0 ++ piece,
@@ -74,7 +74,7 @@ written_more start now new whole piece left goes_on told adds = λ t.
     )
 
 -- a front of the next piece is a front of the whole
-pub written_front : (start now new : SinkState) (whole piece left : List ℕ) → Flows start now → Written start now whole (piece ++ left) → AddsPrefix now new piece → AddsPrefix start new whole
+pub written_front : (start now new : SinkState) (whole piece left : List ℕ) → SinkGoesOn start now → Written start now whole (piece ++ left) → AddsPrefix now new piece → AddsPrefix start new whole
 written_front start now new whole piece left goes_on told adds = λ t.
     let front = told t in
     let some = adds (goes_on.tells ∙ t) in
@@ -91,7 +91,7 @@ written_front start now new whole piece left goes_on told adds = λ t.
 
 -- the line of a clock is written
 pub clock_written : (g : Graph) (script : BusScript) (clocks k : ℕ) (s next : FlowState) (line : List ℕ) (start now new : SinkState) (whole : List ℕ) →
-    k < clocks → line ≡ clock_line g script s → next ≡ flow_step g s (buses_for script s) → Flows start now →
+    k < clocks → line ≡ clock_line g script s → next ≡ flow_step g s (buses_for script s) → SinkGoesOn start now →
     Written start now whole (text_from g script (clocks - k) s) → Adds now new line → Written start new whole (text_from g script (clocks - (k + 1)) next)
 clock_written g script clocks k s next line start now new whole before is_line is_next goes_on told adds =
     let left = text_left g script clocks k s next line before is_line is_next in
@@ -99,7 +99,7 @@ clock_written g script clocks k s next line start now new whole before is_line i
 
 -- a front of the line of a clock is written
 pub clock_front : (g : Graph) (script : BusScript) (clocks k : ℕ) (s next : FlowState) (line : List ℕ) (start now new : SinkState) (whole : List ℕ) →
-    k < clocks → line ≡ clock_line g script s → next ≡ flow_step g s (buses_for script s) → Flows start now →
+    k < clocks → line ≡ clock_line g script s → next ≡ flow_step g s (buses_for script s) → SinkGoesOn start now →
     Written start now whole (text_from g script (clocks - k) s) → AddsPrefix now new line → AddsPrefix start new whole
 clock_front g script clocks k s next line start now new whole before is_line is_next goes_on told adds =
     let left = text_left g script clocks k s next line before is_line is_next in

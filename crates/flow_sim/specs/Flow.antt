@@ -1,7 +1,7 @@
 -- The symbolic flow: labels in place of cells. No cell occurs. The flow statements are this project's own choice.
 use Rattle.std.specs.Prelude.{ℕ, zero, suc, ◌<◌, ◌/◌, ◌%◌, Bool, true, false, List, [], ◌∷◌, length, Option, Some, None, IfSome, slice_get}
-use Rattle.mcu_jumps.specs.declared.codes.Kind.{Kind}
-use Rattle.mcu_jumps.specs.declared.codes.Kind.TheVariants.{Goto, Strobe, Enable, IfF, IfC, IfZ, OnPr, OnPx, OnLeft, OnRight}
+use Rattle.mcu_jumps.specs.declared.kinds.Kind.{Kind}
+use Rattle.mcu_jumps.specs.declared.kinds.Kind.TheVariants.{Goto, Strobe, Enable, IfF, IfC, IfZ, OnPr, OnPx, OnLeft, OnRight}
 use Rattle.mcu_jumps.specs.NextAddress.{bit}
 use Rattle.mcu_jumps.specs.Readings.{Readings}
 use Rattle.flow_graph.specs.declared.instructions.Instr.{Instr}

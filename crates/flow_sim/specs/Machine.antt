@@ -1,5 +1,5 @@
--- What one clock does to registers, flags and memory, whatever comes next. The memory, the start and the order of events
--- are this project's own choice; array and flags are those of the 3002 and the 3001.
+-- What one clock does to registers, flags and memory, whatever comes next. The memory, the start and the order of
+-- events are this project's own choice; array and flags are those of the 3002 and the 3001.
 use Rattle.std.specs.Prelude.{ℕ, ◌≡◌, ◌+◌, ◌%◌, ◌^◌, ◌<◌, ◌==◌, Bool, false, List, length, map, Option, Some, None, All, slice_index, slice_set, if◌then◌else◌, IsTrue}
 use Rattle.std.specs.List.{range_with_len}
 use Rattle.mcu_jumps.specs.Readings.{Readings}

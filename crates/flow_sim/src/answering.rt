@@ -13,16 +13,18 @@ use crate::order::Order;
 use bus_script::Buses;
 use slice_array::{Array, Regs, with_slices};
 
-/// What the array gives in one clock: its new registers, the carry or shift link of each slice with slice 0 in bit 0, and
-/// the flag input of the 3001.
+/// What the array gives in one clock.
 #[derive(Clone, Copy, Debug, PartialEq, Eq)]
 pub struct ArrayAnswer {
+    /// The registers after the clock.
     pub regs: Regs,
+    /// The carry or shift link of each slice, slice 0 in bit 0.
     pub links: u32,
+    /// The flag input of the 3001.
     pub fi: bool,
 }
 
-/// The answer of `N` slices with these registers, where M, I and FO are given.
+// The answer of `N` slices with these registers, where M, I and FO are given.
 #[tactic(auto, using(crate::proofs::FlagBits::one_of))]
 fn answer_at<const N: usize>(regs: &Regs, order: &Order, m: u32, i: u32, fo: bool) -> ArrayAnswer
     requires size { (0 < N) × (N ≤ 16) }

@@ -15,8 +15,9 @@ use std::marker::Model;
 /// The state of the symbolic flow: a place, and the machine.
 #[derive(Drop)]
 pub struct FlowState {
-    // A label, or none in the trap.
+    /// A label, or none in the trap.
     pub(crate) place: Option<u16>,
+    /// Registers, flags and memory.
     pub(crate) machine: Machine,
 }
 
@@ -29,8 +30,8 @@ impl Model for FlowState {
 }
 
 impl FlowState {
-    /// The state of a program before the first clock: at its start label, with the memory that the script names, and all
-    /// else 0.
+    /// The state of a program before the first clock: at its start label, with the memory that the script names, and
+    /// all else 0. It fails only for want of memory.
     #[tactic(auto, unfolding(crate::specs::Flow::flow_start))]
     pub fn start(
         alloc: Global,

@@ -1,15 +1,18 @@
-//! The symbolic flow: a program run by its labels, with registers, flags and memory as whole words.
+//! The symbolic flow: a program run by its labels, with registers, flags and memory as whole words. Layer: meaning.
 //!
-//! `flow_step` is one clock and `flow_run` writes the trace of many; no cell of the matrix occurs. What a clock does to
-//! registers, flags and memory stands apart from the place, in `Machine` and `array_answer`, for the chip does the same.
-//! The memory of a run is taken before its first byte is written.
+//! `flow_step` is one clock and `flow_run` writes the trace of many; the flow knows no cell. What flow and bench share
+//! stands here too: the registers, flags and memory (`Machine`), what a word orders (`Order`), what the array answers
+//! (`array_answer`), and why a run was given up (`RunFault`, which names a cell for the bench alone). The memory of a
+//! run is taken before its first byte is written.
 #![tactic(auto)]
 
 mod answering;
+mod field_values;
 mod flow_state;
 mod instruction;
 mod machine;
 mod order;
+mod order_of;
 mod run_fault;
 mod running;
 mod statement;
@@ -18,7 +21,7 @@ mod stepping;
 pub use answering::{ArrayAnswer, array_answer};
 pub use flow_state::FlowState;
 pub use machine::Machine;
-pub use order::Order;
+pub use order::{Order, writes};
 pub use run_fault::RunFault;
 pub use running::flow_run;
 pub use stepping::flow_step;

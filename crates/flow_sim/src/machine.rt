@@ -12,23 +12,27 @@ use crate::order::Order;
 use bus_script::{ClockView, Script, initial};
 use field_decl::FieldValues;
 use io_base::OutOfMemory;
-use mcu_chip::{FlagIn, FlagOut};
+use mcu_chip::{flag_out, next_c, next_z};
 use mcu_jumps::Tests;
 use slice_array::Regs;
 use std::alloc::Global;
 use std::marker::Model;
 
-/// What one clock leaves to the next, but for the place: the array, the flags and the memory of 4,096 words.
+/// What one clock leaves to the next, but for the place: the array, the flags and the memory of 4,096 words. Memory
+/// and start are this project's own choice.
 #[derive(Drop)]
 pub struct Machine {
     /// The number of the clock that begins, from 0.
     pub clock: u32,
+    /// The registers of the array.
     pub regs: Regs,
-    /// The flags F, C and Z.
+    /// The F latch: the last clock's flag input.
     pub f: bool,
+    /// The C flag.
     pub c: bool,
+    /// The Z flag.
     pub z: bool,
-    /// The PR latch, 4 bits.
+    /// The PR latch, 0 to 15.
     pub pr: u8,
     memory: Vec<u32>,
 }
@@ -74,7 +78,8 @@ impl Machine {
         })
     }
 
-    /// What stands on the M bus: what the script drives, else the word of the memory that MAR addresses.
+    /// What stands on the M bus: what the script drives, else the word of the memory that MAR addresses. MAR counts
+    /// modulo 4,096.
     pub(crate) fn m_bus(&self, m: Option<u32>) -> u32
         requires { length self.now.memory ≡ 4096 }
         ensures value { result ≡ m_bus m self.now }
@@ -90,15 +95,10 @@ impl Machine {
     pub(crate) fn fo(&self, order: &Order) -> bool
         ensures { result ≡ fo_of order.now self.now }
     {
-        match order.ctl.output {
-            FlagOut::Ff0 => false,
-            FlagOut::Ffc => self.c,
-            FlagOut::Ffz => self.z,
-            FlagOut::Ff1 => true,
-        }
+        flag_out(order.ctl.output, self.c, self.z)
     }
 
-    /// What decides where the flow goes on, in a clock whose flag input is `fi`, where PX is `px`.
+    /// What decides where the flow goes on, in a clock whose flag input is `fi`, where PX7..PX4 is `px`.
     pub fn tests(&self, fi: bool, px: u8) -> Tests
         requires latch { self.now.pr < 16 }
         requires px { px < 16 }
@@ -113,7 +113,8 @@ impl Machine {
         }
     }
 
-    /// What is seen of a clock as it begins, with this interrupt strobe, these PR outputs, these user fields and these links.
+    /// What is seen of a clock as it begins, with this interrupt strobe, these PR outputs, these user fields and
+    /// these links.
     pub fn view(&self, ise: bool, pr_out: Option<u8>, values: FieldValues, links: u32) -> ClockView
         ensures { result ≡ seen self.now ise pr_out values links }
     {
@@ -131,7 +132,8 @@ impl Machine {
         }
     }
 
-    /// Ends a clock in which the array gave this answer. The PR latch is then `pr`. The memory takes the old AC at the old MAR.
+    /// Ends a clock in which the array gave this answer. The PR latch is then `pr`. Where the order writes, the memory
+    /// takes the old AC at the old MAR, which counts modulo 4,096.
     pub fn end_clock(&mut self, order: &Order, answer: &ArrayAnswer, pr: u8)
         requires words { length self.old.memory ≡ 4096 }
         requires early { self.old.clock + 1 < 2 ^ 32 }
@@ -148,7 +150,7 @@ impl Machine {
     }
 }
 
-/// The 4,096 words of the memory before the first clock.
+// The 4,096 words of the memory before the first clock.
 fn start_memory(alloc: Global, script: &Script) -> Result<Vec<u32>, OutOfMemory>
     ensures words { IfOk result (λ memory. memory.items ≡ first_words script.now 4096) }
     ensures fits { (slices : ℕ) → IsScriptFor slices script.now → IfOk result (λ memory. All (λ word. word < 4 ^ slices) memory.items) }
@@ -160,7 +162,7 @@ fn start_memory(alloc: Global, script: &Script) -> Result<Vec<u32>, OutOfMemory>
     Ok(memory)
 }
 
-/// Writes a word where the memory is written.
+// Writes a word where the memory is written.
 fn store(memory: &mut Vec<u32>, mar: u32, word: u32, write: bool)
     requires { length memory.old.items ≡ 4096 }
     ensures words { memory.new.items ≡ if write then slice_set memory.old.items (mar % 4096) word else memory.old.items }
@@ -168,25 +170,5 @@ fn store(memory: &mut Vec<u32>, mar: u32, word: u32, write: bool)
 {
     if write {
         memory[(mar % 4096) as usize] = word;
-    }
-}
-
-/// C after the clock.
-fn next_c(input: FlagIn, c: bool, fi: bool) -> bool
-    ensures { result ≡ next_c input c fi }
-{
-    match input {
-        FlagIn::Scz | FlagIn::Stc => fi,
-        FlagIn::Stz | FlagIn::Hcz => c,
-    }
-}
-
-/// Z after the clock.
-fn next_z(input: FlagIn, z: bool, fi: bool) -> bool
-    ensures { result ≡ next_z input z fi }
-{
-    match input {
-        FlagIn::Scz | FlagIn::Stz => fi,
-        FlagIn::Stc | FlagIn::Hcz => z,
     }
 }

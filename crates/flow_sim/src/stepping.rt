@@ -4,7 +4,7 @@ ghost use Rattle.std.specs.Prelude.{◌≡◌, ℕ, ◌+◌, ◌^◌, ◌<◌, I
 ghost use Rattle.std.specs.Option.{option_copied};
 ghost use Rattle.field_decl.specs.Decls.{declaration_of};
 ghost use Rattle.flow_graph.specs.Graph.{graph_of};
-ghost use Rattle.flow_graph.specs.Microwords.{IsMicroword};
+ghost use Rattle.flow_graph.specs.Microwords.{FitsDeclaration};
 ghost use Rattle.flow_graph.specs.Targets.{AreTargets};
 ghost use Rattle.flow_graph.specs.Order.{order_of, values_of};
 ghost use Rattle.bus_script.specs.ScriptFits.{AreBusesFor};
@@ -12,14 +12,17 @@ ghost use Rattle.flow_sim.specs.Flow.{IsStateOf, flow_step, flow_view, place_aft
 ghost use Rattle.flow_sim.specs.Machine.{IsMachineFor, fi_of, readings_of, after, view_of};
 
 use crate::answering::array_answer;
+use crate::field_values::values_of;
 use crate::flow_state::FlowState;
-use crate::instruction::{instr_at, latch_after, order_of, place_after, shows, strobes, values_of};
+use crate::instruction::{instr_at, latch_after, place_after, shows, strobes};
 use crate::machine::Machine;
+use crate::order_of::order_of;
 use bus_script::{Buses, ClockView};
 use field_decl::Decl;
 use flow_graph::{Instr, Program};
 
-/// One clock of the machine under an instruction, or where there is none the free cell's: the next place, and what is seen.
+// One clock of the machine under an instruction, or where there is none the free cell's: the next place, and what is
+// seen.
 #[tactic(auto, unfolding(crate::specs::Machine::after, crate::specs::Machine::view_of))]
 fn clock_of(
     decl: &Decl,
@@ -27,7 +30,7 @@ fn clock_of(
     machine: &mut Machine,
     buses: &Buses,
 ) -> (Option<u16>, ClockView)
-    requires instr { IfSome (option_copied instr) (IsMicroword (declaration_of decl.now)) }
+    requires instr { IfSome (option_copied instr) (FitsDeclaration (declaration_of decl.now)) }
     requires machine { IsMachineFor decl.now.slices machine.old }
     requires early { machine.old.clock + 1 < 2 ^ 32 }
     requires buses { AreBusesFor decl.now.slices buses.now }

@@ -10,7 +10,7 @@ use std::alloc::Global;
 use std::process::Abort;
 use std::test::Fail;
 
-/// These lines, each with its line feed.
+// These lines, each with its line feed.
 fn text_of(alloc: Global, lines: &[&[u8]]) -> Result<Vec<u8>, Fail> {
     let mut text = Vec::new(alloc);
     for line in lines {
@@ -20,7 +20,7 @@ fn text_of(alloc: Global, lines: &[&[u8]]) -> Result<Vec<u8>, Fail> {
     Ok(text)
 }
 
-/// The flow of a source under a script has this trace, one line a clock.
+// The flow of a source under a script has this trace, one line a clock.
 fn flows(
     rt: &impl Abort,
     alloc: Global,

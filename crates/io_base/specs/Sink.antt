@@ -12,7 +12,7 @@ pub record SinkState : Type 0 where
   pub bytes : List ℕ
 
 -- what every call keeps: the count of faults never falls, and the sink stays of its kind
-pub record Flows (old new : SinkState) : Type 0 where
+pub record SinkGoesOn (old new : SinkState) : Type 0 where
   pub later : old.faults ≤ new.faults
   pub tells : new.tells ≡ old.tells
 

@@ -41,7 +41,7 @@ impl CallPlan {
         self.to_fail.contains(&self.made)
     }
 
-    /// Adds a call to those that are to fail.
+    /// Adds a call, numbered from 1, to those that are to fail. It fails only for want of memory.
     pub fn add(&mut self, number: u32) -> Result<(), OutOfMemory>
         ensures ok { OnOk result (PlansFault self.old self.new number) }
         ensures err { OnErr result (self.new ≡ self.old) }

@@ -40,7 +40,7 @@ impl<R: Files> FileShelf<R> {
     }
 }
 
-/// Reads a file from a place on.
+// Reads a file from a place on.
 fn read_from<R: Files>(rt: &R, name: &str, at: u64, buf: &mut [u8]) -> io::Result<usize>
     ensures { IfOk result (λ n. n ≤ length buf.new) }
 {
@@ -49,7 +49,7 @@ fn read_from<R: Files>(rt: &R, name: &str, at: u64, buf: &mut [u8]) -> io::Resul
     file.read(buf)
 }
 
-/// Writes the piece at the end of a file, which is made where it is not there.
+// Writes the piece at the end of a file, which is made where it is not there.
 fn write_at_end<R: Files>(rt: &R, name: &str, piece: &[u8]) -> io::Result<()> {
     let mut file = OpenOptions::new().append(true).create(true).open(rt, name)?;
     file.write_all(piece)

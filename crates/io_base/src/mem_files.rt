@@ -24,7 +24,7 @@ pub fn copy_from(bytes: &[u8], at: u64, buf: &mut [u8]) -> usize
     count
 }
 
-/// Puts a file that holds just these bytes.
+/// Puts a file that holds just these bytes. It fails only for want of memory.
 #[tactic(auto, using(std::proofs::lemmas::Map::Text::text_keys))]
 pub fn put(
     alloc: Global,
@@ -42,7 +42,7 @@ pub fn put(
     Ok(())
 }
 
-/// Adds a piece to a file. A name that is not there counts as an empty file.
+/// Adds a piece to a file. A name that is not there counts as an empty file. It fails only for want of memory.
 #[tactic(auto, using(std::proofs::lemmas::Map::Text::text_keys))]
 pub fn add(alloc: Global, files: &mut MemFiles, name: &str, piece: &[u8]) -> Result<(), OutOfMemory>
     ensures ok { OnOk result (file_in files.new name.now

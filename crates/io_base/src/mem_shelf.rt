@@ -14,8 +14,11 @@ use std::collections::BTreeMap;
 /// A kind of call on a shelf.
 #[derive(Clone, Copy, Debug, PartialEq, Eq)]
 pub enum CallKind {
+    /// A `read_at`.
     Read,
+    /// A `create`.
     Create,
+    /// An `append`.
     Append,
 }
 
@@ -53,7 +56,7 @@ impl MemShelf {
         }
     }
 
-    /// Puts a file that holds just these bytes.
+    /// Puts a file that holds just these bytes, without a call that is counted. It fails only for want of memory.
     pub fn put_file(&mut self, name: &str, bytes: &[u8]) -> Result<(), OutOfMemory>
         ensures ok { OnOk result ((shelf_of self.new).file name.now ≡ Some bytes.now) }
         ensures err { OnErr result ((shelf_of self.new).file name.now ≡ (shelf_of self.old).file name.now) }
@@ -65,7 +68,7 @@ impl MemShelf {
         put(self.alloc, &mut self.files, name, copy)
     }
 
-    /// The bytes of a file.
+    /// The bytes of a file, or None where no file has the name.
     pub fn file(&self, name: &str) -> Option<&[u8]>
         ensures { option_copied result ≡ (shelf_of self.now).file name.now }
     {

@@ -2,7 +2,7 @@
 ghost use Rattle.std.specs.Prelude.{◌≡◌, [], length, IsTrue, IsErr, IfOk, OnOk, OnErr};
 ghost use Rattle.io_base.specs.Calls.{FailsNext, CountsCall, PlansFault, IsUncalled};
 ghost use Rattle.io_base.specs.Causes.{CountsFault};
-ghost use Rattle.io_base.specs.Sink.{Flows, AddsFront};
+ghost use Rattle.io_base.specs.Sink.{SinkGoesOn, AddsFront};
 
 use crate::call_plan::CallPlan;
 use crate::{Failed, OutOfMemory, Sink};
@@ -70,7 +70,7 @@ impl Sink for MemSink {
     fn write(&mut self, piece: &[u8]) -> Result<usize, Failed>
         ensures ok { IfOk result (λ n. n ≡ length piece.now) }
         ensures told { AddsFront self.old.sink self.new.sink piece.now result }
-        ensures goes_on { Flows self.old.sink self.new.sink }
+        ensures goes_on { SinkGoesOn self.old.sink self.new.sink }
         ensures faults { CountsFault self.old.sink.faults self.new.sink.faults result }
         ensures fails { FailsNext self.old.writes → IsErr result }
         ensures calls { CountsCall self.old.writes self.new.writes }

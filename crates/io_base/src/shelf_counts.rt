@@ -5,7 +5,7 @@ ghost use Rattle.io_base.specs.Causes.{counted};
 use arrayvec::ArrayVec;
 use std::marker::Model;
 
-/// The counts of a shelf. Each stands still at its end.
+/// The counts of a shelf. Each stands still at its end, 2^64 - 1.
 #[derive(Drop)]
 pub struct ShelfCounts {
     faults: u64,

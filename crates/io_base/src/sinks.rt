@@ -1,7 +1,7 @@
 //! A sink of bytes: what the program asks of its output.
 ghost use Rattle.std.specs.Prelude.{◌≡◌, ◌≤◌, ◌<◌, length, IfOk, OnOk, OnErr};
 ghost use Rattle.io_base.specs.Causes.{Rose};
-ghost use Rattle.io_base.specs.Sink.{SinkState, Flows, Adds, AddsPrefix, AddsFront};
+ghost use Rattle.io_base.specs.Sink.{SinkState, SinkGoesOn, Adds, AddsPrefix, AddsFront};
 
 use crate::Failed;
 
@@ -15,7 +15,7 @@ pub trait Sink {
         ensures bound { IfOk result (λ n. n ≤ length piece.now) }
         ensures some { 0 < length piece.now → IfOk result (λ n. 0 < n) }
         ensures told { AddsFront (state self.old) (state self.new) piece.now result }
-        ensures goes_on { Flows (state self.old) (state self.new) }
+        ensures goes_on { SinkGoesOn (state self.old) (state self.new) }
         ensures cause { OnErr result (Rose (state self.old).faults (state self.new).faults) };
 }
 
@@ -23,7 +23,7 @@ pub trait Sink {
 pub fn put_all<K: Sink>(sink: &mut K, piece: &[u8]) -> Result<(), Failed>
     ensures ok { OnOk result (Adds (K.state sink.old) (K.state sink.new) piece.now) }
     ensures err { OnErr result (AddsPrefix (K.state sink.old) (K.state sink.new) piece.now) }
-    ensures goes_on { Flows (K.state sink.old) (K.state sink.new) }
+    ensures goes_on { SinkGoesOn (K.state sink.old) (K.state sink.new) }
     ensures cause { OnErr result (Rose (K.state sink.old).faults (K.state sink.new).faults) }
 {
     let mut rest = piece;

@@ -1,4 +1,4 @@
--- What the 3001 holds between two clocks.
+-- What the 3001 holds between two clocks (data sheet).
 use Rattle.std.specs.Prelude.{ℕ, ◌<◌, Bool}
 use Rattle.mcu_jumps.specs.Position.{Position, IsCell}
 

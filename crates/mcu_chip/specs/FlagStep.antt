@@ -1,4 +1,5 @@
--- The flag step: flags, latch and outputs of the 3001 in one clock.
+-- The flag step: flags, latch and outputs of the 3001 in one clock. The rules are the data sheet's; the order of
+-- events and the PR outputs under JCE are this project's own choice.
 use Rattle.std.specs.Prelude.{ℕ, ◌%◌, ◌==◌, Bool, true, false, Option, Some, None}
 use Rattle.mcu_jumps.specs.declared.codes.Code.{Code}
 use Rattle.mcu_jumps.specs.declared.codes.Code.TheVariants as code

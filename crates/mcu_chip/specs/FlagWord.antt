@@ -1,4 +1,4 @@
--- The four FC bits of the flag functions.
+-- The four FC bits of the flag functions. Their values are this project's own choice.
 use Rattle.std.specs.Prelude.{ℕ, ◌+◌, ◌*◌}
 use Rattle.mcu_chip.specs.declared.flags.FlagIn.{FlagIn}
 use Rattle.mcu_chip.specs.declared.flags.FlagIn.TheVariants as input

@@ -2,13 +2,17 @@
 use mcu_jumps::Cell;
 use std::marker::Model;
 
-/// The registers of the 3001. Before the first clock the cell is row 0, column 0, and all else is 0.
+/// The registers of the 3001. Before the first clock the cell is row 0, column 0, and all else is 0
+/// (this project's own choice).
 #[derive(Clone, Copy, Debug, PartialEq, Eq)]
 pub struct Mcu {
     /// The present microprogram address.
     pub cell: Cell,
+    /// The F latch: the last flag input.
     pub f: bool,
+    /// The C flag.
     pub c: bool,
+    /// The Z flag.
     pub z: bool,
     /// The PR latch, below 16.
     pub pr: u8,
@@ -32,8 +36,8 @@ impl Model for Mcu {
 pub struct McuOut {
     /// The registers after the clock.
     pub mcu: Mcu,
-    /// The interrupt strobe.
+    /// Whether the interrupt strobe is active: under JZR with operand 15 alone (data sheet).
     pub ise: bool,
-    /// The PR outputs PR2..PR0, where they are enabled.
+    /// The PR outputs PR2..PR0, 0 to 7, where they are enabled: under JCE alone (this project's own choice).
     pub pr_out: Option<u8>,
 }

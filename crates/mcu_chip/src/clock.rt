@@ -7,20 +7,27 @@ ghost use Rattle.mcu_chip.specs.FlagStep.{flag_out, readings_of, next_c, next_z,
 use crate::{FlagCtl, FlagIn, FlagOut, Mcu, McuOut};
 use mcu_jumps::{Code, Jump, Tests, next};
 
-/// The flag output FO, from C and Z as the clock begins.
+/// The flag output FO under these flag functions, from C and Z of the chip as the clock begins (data sheet).
 pub fn fo(mcu: &Mcu, ctl: FlagCtl) -> bool
     ensures { result ≡ flag_out ctl.output mcu.now.c mcu.now.z }
 {
-    match ctl.output {
+    flag_out(ctl.output, mcu.c, mcu.z)
+}
+
+/// The flag output FO under this function, from C and Z as the clock begins (data sheet).
+pub fn flag_out(output: FlagOut, c: bool, z: bool) -> bool
+    ensures { result ≡ flag_out output c z }
+{
+    match output {
         FlagOut::Ff0 => false,
-        FlagOut::Ffc => mcu.c,
-        FlagOut::Ffz => mcu.z,
+        FlagOut::Ffc => c,
+        FlagOut::Ffz => z,
         FlagOut::Ff1 => true,
     }
 }
 
-// C after the clock.
-fn next_c(input: FlagIn, c: bool, fi: bool) -> bool
+/// C after a clock whose flag input is `fi`, from C before it (data sheet).
+pub fn next_c(input: FlagIn, c: bool, fi: bool) -> bool
     ensures { result ≡ next_c input c fi }
 {
     match input {
@@ -29,8 +36,8 @@ fn next_c(input: FlagIn, c: bool, fi: bool) -> bool
     }
 }
 
-// Z after the clock.
-fn next_z(input: FlagIn, z: bool, fi: bool) -> bool
+/// Z after a clock whose flag input is `fi`, from Z before it (data sheet).
+pub fn next_z(input: FlagIn, z: bool, fi: bool) -> bool
     ensures { result ≡ next_z input z fi }
 {
     match input {
@@ -39,7 +46,7 @@ fn next_z(input: FlagIn, z: bool, fi: bool) -> bool
     }
 }
 
-/// One clock, in which the flag input is `fi`, PX7..PX4 is `px` and SX3..SX0 is `sx`.
+/// One clock, in which the flag input is `fi`, PX7..PX4 is `px` and SX3..SX0 is `sx`, each 0 to 15.
 pub fn step(mcu: &Mcu, jump: Jump, ctl: FlagCtl, fi: bool, px: u8, sx: u8) -> McuOut
     requires px_in_range { px < 16 }
     requires sx_in_range { sx < 16 }

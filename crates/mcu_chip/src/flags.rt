@@ -3,7 +3,7 @@ ghost use Rattle.std.specs.Prelude.{◌≡◌, ◌<◌, ◌↔◌, IsNone, IfSom
 ghost use Rattle.mcu_chip.specs.FlagWord.{fc_of};
 ghost use Rattle.mcu_chip.specs.declared.flags.FlagCtl.{FlagCtl};
 
-/// A flag input function: which of C and Z take the flag input.
+/// A flag input function of the 3001: which of C and Z take the flag input (data sheet).
 #[derive(Clone, Copy, Debug, PartialEq, Eq)]
 pub enum FlagIn {
     /// Set C and Z.
@@ -16,7 +16,7 @@ pub enum FlagIn {
     Hcz,
 }
 
-/// A flag output function: what the flag output FO is.
+/// A flag output function of the 3001: what the flag output FO is (data sheet).
 #[derive(Clone, Copy, Debug, PartialEq, Eq)]
 pub enum FlagOut {
     /// Force FO to 0.
@@ -32,12 +32,14 @@ pub enum FlagOut {
 /// The flag functions of one microinstruction.
 #[derive(Clone, Copy, Debug, PartialEq, Eq)]
 pub struct FlagCtl {
+    /// Which of C and Z take the flag input.
     pub input: FlagIn,
+    /// What the flag output is.
     pub output: FlagOut,
 }
 
 impl FlagCtl {
-    /// The flag functions of the bits FC3..FC0; None above 15.
+    /// The flag functions of the bits FC3..FC0; None above 15. The values are this project's own choice.
     pub fn decode(fc: u8) -> Option<FlagCtl>
         ensures none { IsNone result ↔ (15 < fc) }
         ensures some { IfSome result (λ ctl. fc_of ctl ≡ fc) }
@@ -61,7 +63,7 @@ impl FlagCtl {
         Some(FlagCtl { input, output })
     }
 
-    /// The bits FC3..FC0.
+    /// The bits FC3..FC0, 0 to 15. The values are this project's own choice.
     pub fn encode(self) -> u8
         ensures fc { result ≡ fc_of self }
         ensures in_range { result < 16 }

@@ -1,4 +1,4 @@
--- The names of the jump codes.
+-- The names of the jump codes (the 3001's data sheet).
 use Rattle.std.specs.Prelude.{ℕ, List, codes}
 use Rattle.mcu_jumps.specs.declared.codes.Code.{Code}
 use Rattle.mcu_jumps.specs.declared.codes.Code.TheVariants as code

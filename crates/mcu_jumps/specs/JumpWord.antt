@@ -1,4 +1,4 @@
--- A jump code with its operand, and the AC value of both.
+-- A jump code with its operand, and the AC value of both (the 3001's data sheet).
 use Rattle.std.specs.Prelude.{ℕ, ◌+◌, ◌<◌}
 use Rattle.mcu_jumps.specs.declared.codes.Code.{Code}
 use Rattle.mcu_jumps.specs.declared.codes.Code.TheVariants as code

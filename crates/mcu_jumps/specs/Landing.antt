@@ -1,9 +1,10 @@
--- Which jumps a flow statement admits, and where their outcomes land.
+-- Which jumps a flow statement admits, and where their outcomes land. The statements and what they admit are this
+-- project's own choice; where a jump lands is the data sheet's.
 use Rattle.std.specs.Prelude.{ℕ, ◌≡◌, ◌<◌, List, Option, Some, slice_get}
 use Rattle.mcu_jumps.specs.declared.codes.Code.{Code}
 use Rattle.mcu_jumps.specs.declared.codes.Code.TheVariants as code
-use Rattle.mcu_jumps.specs.declared.codes.Kind.{Kind}
-use Rattle.mcu_jumps.specs.declared.codes.Kind.TheVariants as kind
+use Rattle.mcu_jumps.specs.declared.kinds.Kind.{Kind}
+use Rattle.mcu_jumps.specs.declared.kinds.Kind.TheVariants as kind
 use Rattle.mcu_jumps.specs.Position.{Position}
 use Rattle.mcu_jumps.specs.JumpWord.{JumpWord, IsJump}
 use Rattle.mcu_jumps.specs.NextAddress.{lands}

@@ -1,4 +1,4 @@
--- The next address: the jump table of the 3001's data sheet.
+-- The next address: the jump table of the 3001's data sheet. The row group of JCE is this project's own choice.
 use Rattle.std.specs.Prelude.{ℕ, ◌+◌, ◌*◌, ◌/◌, ◌%◌, Bool, true, false}
 use Rattle.mcu_jumps.specs.declared.codes.Code.{Code}
 use Rattle.mcu_jumps.specs.declared.codes.Code.TheVariants as code

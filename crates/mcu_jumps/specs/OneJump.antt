@@ -1,6 +1,6 @@
--- The law that one label fixes a jump.
+-- The law that one label fixes a jump. It follows from the jump table and from what the statements admit.
 use Rattle.std.specs.Prelude.{ℕ, ◌≡◌, ◌<◌}
-use Rattle.mcu_jumps.specs.declared.codes.Kind.{Kind}
+use Rattle.mcu_jumps.specs.declared.kinds.Kind.{Kind}
 use Rattle.mcu_jumps.specs.Position.{Position}
 use Rattle.mcu_jumps.specs.JumpWord.{JumpWord}
 use Rattle.mcu_jumps.specs.NextAddress.{lands}

@@ -1,4 +1,4 @@
--- A place in the address matrix of the 3001.
+-- A place in the address matrix of the 3001 (data sheet).
 use Rattle.std.specs.Prelude.{ℕ, ◌+◌, ◌*◌, ◌<◌}
 
 -- a row and a column

@@ -1,4 +1,4 @@
--- What a jump may test in the clock in which it is executed.
+-- What a jump may test in the clock in which it is executed (the 3001's data sheet).
 use Rattle.std.specs.Prelude.{ℕ, Bool}
 
 -- the flags F, C and Z, the PR latch, and the value on PX7..PX4 (data sheet)

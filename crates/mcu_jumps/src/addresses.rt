@@ -6,7 +6,7 @@ ghost use Rattle.mcu_jumps.specs.NextAddress.{next_of, lands, tested, outcome_co
 
 use crate::{Cell, Code, Jump, Tests};
 
-/// The cell that a jump leads to.
+/// The cell that a jump leads to, by the data sheet. The row group of JCE is this project's own choice.
 pub fn next(from: Cell, jump: Jump, tests: Tests) -> Cell
     ensures next { result ≡ next_of from jump tests }
     ensures in_matrix { IsCell result }
@@ -31,7 +31,7 @@ fn tested_value(code: Code, tests: Tests) -> u8
     }
 }
 
-/// The cell that a jump leads to where the tested value is `outcome`.
+/// The cell that a jump leads to where the tested value is `outcome`, which is 0 for a code that tests nothing.
 pub fn landing(from: Cell, jump: Jump, outcome: u8) -> Cell
     requires { outcome < outcome_count jump.code }
     ensures landing { result ≡ lands from jump outcome }

@@ -4,7 +4,7 @@ ghost use Rattle.mcu_jumps.specs.Position.{Position, IsCell, address_of};
 
 use std::marker::Model;
 
-/// A cell of the matrix: row 0 to 31, column 0 to 15.
+/// A cell of the 3001's address matrix: row 0 to 31, column 0 to 15 (data sheet).
 #[derive(Clone, Copy, Debug, PartialEq, Eq)]
 pub struct Cell {
     row: u8,
@@ -45,6 +45,7 @@ impl Cell {
         Cell { row, col }
     }
 
+    /// The row, 0 to 31.
     pub fn row(self) -> u8
         ensures row { result ≡ self.row }
         ensures in_range { result < 32 }
@@ -52,6 +53,7 @@ impl Cell {
         self.row
     }
 
+    /// The column, 0 to 15.
     pub fn col(self) -> u8
         ensures col { result ≡ self.col }
         ensures in_range { result < 16 }
@@ -59,7 +61,7 @@ impl Cell {
         self.col
     }
 
-    /// The microprogram address: the row on MA8..MA4, the column on MA3..MA0.
+    /// The microprogram address, 0 to 511: the row on MA8..MA4, the column on MA3..MA0 (data sheet).
     pub fn address(self) -> u16
         ensures address { result ≡ address_of self }
         ensures in_range { result < 512 }

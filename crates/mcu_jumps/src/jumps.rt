@@ -5,7 +5,7 @@ ghost use Rattle.mcu_jumps.specs.JumpWord.{JumpWord, IsJump, ac_of};
 use crate::Code;
 use std::marker::Model;
 
-/// A jump code with an operand in the code's range.
+/// A jump code with an operand in the code's range (data sheet).
 #[derive(Clone, Copy, Debug, PartialEq, Eq)]
 pub struct Jump {
     code: Code,
@@ -49,12 +49,14 @@ impl Jump {
         Some(Jump { code, operand })
     }
 
+    /// The jump code.
     pub fn code(self) -> Code
         ensures { result ≡ self.code }
     {
         self.code
     }
 
+    /// The operand, below the code's number of operands.
     pub fn operand(self) -> u8
         ensures operand { result ≡ self.operand }
         ensures in_range { IsJump self }
@@ -62,7 +64,7 @@ impl Jump {
         self.operand
     }
 
-    /// The AC value, AC6..AC0.
+    /// The AC value, AC6..AC0, 0 to 127.
     pub fn encode(self) -> u8
         ensures ac { result ≡ ac_of self }
         ensures in_range { result < 128 }

@@ -1,8 +1,9 @@
 //! The 3001's address matrix and its jumps: cells, the seven bits of a jump, where each jump
-//! leads, and which jump serves a flow statement.
+//! leads, and which jump serves a flow statement. Layer: chips.
 //!
-//! Everything here is the jump table of the 3001's data sheet, exactly: `next` and `landing` for
-//! every cell and each of the 128 jumps, `reach` with the least jump or with the proof that none
+//! `next` and `landing` are the jump table of the 3001's data sheet, exactly, for every cell and each
+//! of the 128 jumps; the row group of JCE is this project's own choice. So are the flow statements and
+//! the jumps that they admit. `reach` gives the least jump of a statement, or the proof that none
 //! serves. No call takes memory.
 #![tactic(auto)]
 
@@ -10,13 +11,15 @@ mod addresses;
 mod cells;
 mod codes;
 mod jumps;
+mod kinds;
 mod reaching;
 mod readings;
 
 pub use addresses::{landing, next};
 pub use cells::Cell;
-pub use codes::{Code, Kind};
+pub use codes::Code;
 pub use jumps::Jump;
+pub use kinds::Kind;
 pub use reaching::{admits, one_jump_to_a_label, outcomes, reach};
 pub use readings::Tests;
 

@@ -7,7 +7,7 @@ ghost use Rattle.mcu_jumps.specs.OneJump.{OneJumpToLabel};
 
 use crate::{Cell, Code, Jump, Kind, landing};
 
-/// How many outcomes a flow statement has, which is how many targets it names.
+/// How many outcomes a flow statement has, 1, 2, 4 or 16, which is how many targets it names.
 pub fn outcomes(kind: Kind) -> u8
     ensures { result ≡ outcomes_of kind }
 {
@@ -19,8 +19,8 @@ pub fn outcomes(kind: Kind) -> u8
     }
 }
 
-/// Whether a flow statement may become this jump. `goto` never becomes JZR 15, since that jump
-/// strobes for an interrupt.
+/// Whether a flow statement may become this jump (this project's own choice). `goto` never becomes
+/// JZR 15, since that jump strobes for an interrupt.
 pub fn admits(kind: Kind, jump: Jump) -> bool
     ensures { IsTrue result ↔ Admits kind jump }
 {

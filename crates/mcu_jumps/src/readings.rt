@@ -1,7 +1,8 @@
 //! What a jump may test in the clock in which it is executed.
 use std::marker::Model;
 
-/// The values that jumps test: the flags as 0 or 1, the PR latch and the PX bus, each below 16.
+/// The values that jumps test: the flags, the PR latch and the PX bus. What is tested is the data
+/// sheet's; that F holds this clock's flag input is the order of events that this project fixes.
 #[derive(Clone, Copy, Debug, PartialEq, Eq)]
 pub struct Tests {
     /// The F latch, which holds this clock's flag input.
@@ -10,9 +11,9 @@ pub struct Tests {
     pub c: bool,
     /// The Z flag, as the clock begins.
     pub z: bool,
-    /// The PR latch, as the clock begins.
+    /// The PR latch, as the clock begins, below 16.
     pub pr: u8,
-    /// The value on PX7..PX4.
+    /// The value on PX7..PX4, below 16.
     pub px: u8,
 }
 

@@ -9,8 +9,8 @@ use Rattle.std.proofs.lemmas.List.{length-map}
 use Rattle.std.proofs.lemmas.List.Folds.{list_any-append}
 use Rattle.std.proofs.lemmas.List.Sums.{passes_at_first}
 use Rattle.std.proofs.lemmas.Option.{cond_some, get_or_from_slice_get}
-use Rattle.micro_asm.specs.declared.lines.PinLine.{PinLine}
-use Rattle.micro_asm.specs.declared.lines.InstrLine.{InstrLine}
+use Rattle.micro_asm.specs.declared.accepted_lines.PinLine.{PinLine}
+use Rattle.micro_asm.specs.declared.accepted_lines.NamedInstr.{NamedInstr}
 use Rattle.micro_asm.specs.Earlier.{has_label, is_pinned, labels_of, pinned_labels, are_apart}
 use Rattle.micro_asm.specs.Source.{label_place}
 
@@ -26,11 +26,11 @@ pinned_push [] pin = refl
 pinned_push (p ∷ pins) pin = ap (λ (names : List (List ℕ)). p.label ∷ names) (pinned_push pins pin)
 
 -- a label among the labels of the instructions is an instruction's
-pub label_among : (name : List ℕ) (instrs : List InstrLine) → list_any (bytes_eq name) (labels_of instrs) ≡ has_label instrs name
+pub label_among : (name : List ℕ) (instrs : List NamedInstr) → list_any (bytes_eq name) (labels_of instrs) ≡ has_label instrs name
 label_among name [] = refl
 label_among name (instr ∷ instrs) = ap (λ (b : Bool). bytes_eq name instr.label || b) (label_among name instrs)
 
-pub labels_push : (instrs : List InstrLine) (instr : InstrLine) → labels_of (instrs ++ instr ∷ []) ≡ labels_of instrs ++ instr.label ∷ []
+pub labels_push : (instrs : List NamedInstr) (instr : NamedInstr) → labels_of (instrs ++ instr ∷ []) ≡ labels_of instrs ++ instr.label ∷ []
 labels_push [] instr = refl
 labels_push (i ∷ instrs) instr = ap (λ (names : List (List ℕ)). i.label ∷ names) (labels_push instrs instr)
 
@@ -98,18 +98,18 @@ first_within p (x ∷ xs) has = elim (cases_Bool (p x)) [
 ]
 
 -- the place of a label is within the instructions, and the instruction there has it
-pub record StandsAt (instrs : List InstrLine) (name : List ℕ) (place : ℕ) : Type 0 where
+pub record StandsAt (instrs : List NamedInstr) (name : List ℕ) (place : ℕ) : Type 0 where
   pub is_place : label_place instrs name ≡ Some place
   pub within : place < length instrs
-  pub instr : InstrLine
+  pub instr : NamedInstr
   pub at : slice_get instrs place ≡ Some instr
   pub named : bytes_eq name instr.label ≡ true
 
-pub stands : (instrs : List InstrLine) (name : List ℕ) → has_label instrs name ≡ true → (place : ℕ) × StandsAt instrs name place
+pub stands : (instrs : List NamedInstr) (name : List ℕ) → has_label instrs name ≡ true → (place : ℕ) × StandsAt instrs name place
 stands instrs name has =
-    let p : InstrLine → Bool = λ instr. bytes_eq name instr.label in
+    let p : NamedInstr → Bool = λ instr. bytes_eq name instr.label in
     let within : position_or_len p instrs < length instrs = first_within p instrs has in
-    let here : (instr : InstrLine) × (slice_get instrs (position_or_len p instrs) ≡ Some instr) = there instrs (position_or_len p instrs) within in (
+    let here : (instr : NamedInstr) × (slice_get instrs (position_or_len p instrs) ≡ Some instr) = there instrs (position_or_len p instrs) within in (
       position_or_len p instrs,
       record {
         is_place = ap (λ (b : Bool). cond b (Some (position_or_len p instrs)) None) (lt-ltb (position_or_len p instrs) (length instrs) within);
@@ -120,18 +120,18 @@ stands instrs name has =
       },
     )
 
-pub place_within : (instrs : List InstrLine) (name : List ℕ) (place : ℕ) → label_place instrs name ≡ Some place → place < length instrs
+pub place_within : (instrs : List NamedInstr) (name : List ℕ) (place : ℕ) → label_place instrs name ≡ Some place → place < length instrs
 place_within instrs name place is_place =
-    let p : InstrLine → Bool = λ instr. bytes_eq name instr.label in
+    let p : NamedInstr → Bool = λ instr. bytes_eq name instr.label in
     let parts : (ltb (position_or_len p instrs) (length instrs) ≡ true) × (position_or_len p instrs ≡ place) = cond_some (ltb (position_or_len p instrs) (length instrs)) (position_or_len p instrs) place is_place in
     subst (λ (k : ℕ). k < length instrs) parts.1 (ltb-true (position_or_len p instrs) (length instrs) parts.0)
 
-first_among : (name : List ℕ) (instrs : List InstrLine) → position_or_len (bytes_eq name) (labels_of instrs) ≡ position_or_len (λ instr. bytes_eq name instr.label) instrs
+first_among : (name : List ℕ) (instrs : List NamedInstr) → position_or_len (bytes_eq name) (labels_of instrs) ≡ position_or_len (λ instr. bytes_eq name instr.label) instrs
 first_among name [] = refl
 first_among name (instr ∷ instrs) = ap (λ (n : ℕ). cond (not (bytes_eq name instr.label)) (1 + n) 0) (first_among name instrs)
 
 -- a label's place among the labels is that of its instruction
-pub place_among : (name : List ℕ) (instrs : List InstrLine) → position (bytes_eq name) (labels_of instrs) ≡ label_place instrs name
+pub place_among : (name : List ℕ) (instrs : List NamedInstr) → position (bytes_eq name) (labels_of instrs) ≡ label_place instrs name
 place_among name instrs =
     ap (λ (k : ℕ). cond (ltb k (length (labels_of instrs))) (Some k) None) (first_among name instrs)
     ∙ ap (λ (n : ℕ). cond (ltb (position_or_len (λ instr. bytes_eq name instr.label) instrs) n) (Some (position_or_len (λ instr. bytes_eq name instr.label) instrs)) None) (length-map instrs (λ instr. instr.label))

@@ -13,13 +13,13 @@ use Rattle.field_decl.specs.Earlier.{Declared, declaration_with}
 use Rattle.field_decl.specs.Layout.{completed_with, completed}
 use Rattle.flow_graph.specs.declared.instructions.Instr.{Instr}
 use Rattle.flow_graph.specs.declared.pinning.Pin.{Pin}
-use Rattle.flow_graph.specs.Microwords.{IsMicroword, AreMicrowords}
+use Rattle.flow_graph.specs.Microwords.{FitsDeclaration, AllFitDeclaration}
 use Rattle.flow_graph.specs.Targets.{AreTargets}
 use Rattle.flow_graph.specs.Valid.{IsInstr, IsProgram}
-use Rattle.micro_asm.specs.declared.lines.StartLine.{StartLine}
-use Rattle.micro_asm.specs.declared.lines.PinLine.{PinLine}
-use Rattle.micro_asm.specs.declared.lines.InstrLine.{InstrLine}
-use Rattle.micro_asm.specs.Earlier.{Facts, IsSound, IsInstrLine, declaration_so_far, has_label, labels_of, pinned_labels}
+use Rattle.micro_asm.specs.declared.accepted_lines.StartLine.{StartLine}
+use Rattle.micro_asm.specs.declared.accepted_lines.PinLine.{PinLine}
+use Rattle.micro_asm.specs.declared.accepted_lines.NamedInstr.{NamedInstr}
+use Rattle.micro_asm.specs.Earlier.{Facts, IsSound, IsNamedInstr, declaration_so_far, has_label, labels_of, pinned_labels}
 use Rattle.micro_asm.specs.Source.{is_unknown, unknown_start, unknown_pin, unknown_target, unknown_line, first_line, label_place, target_place, pin_of, instr_of}
 use Rattle.micro_asm.proofs.LabelLemmas.{missed_at, from_map, StandsAt, stands, place_within, apart_at}
 
@@ -41,18 +41,18 @@ unmapped f (Some x) none = absurd (cc none)
 record AreKnown (facts : Facts) (start : StartLine) : Type 0 where
   pub start_known : has_label facts.instrs start.label ≡ true
   pub pins_known : (k : ℕ) (pin : PinLine) → slice_get facts.pins k ≡ Some pin → has_label facts.instrs pin.label ≡ true
-  pub targets_known : (k : ℕ) (instr : InstrLine) → slice_get facts.instrs k ≡ Some instr → list_any (is_unknown facts.instrs) instr.targets ≡ false
+  pub targets_known : (k : ℕ) (instr : NamedInstr) → slice_get facts.instrs k ≡ Some instr → list_any (is_unknown facts.instrs) instr.targets ≡ false
 
 are_known : (facts : Facts) (start : StartLine) → unknown_line facts start ≡ None → AreKnown facts start
 are_known facts start none =
-    let instrs : List InstrLine = facts.instrs in
+    let instrs : List NamedInstr = facts.instrs in
     let one : (unknown_start instrs start ≡ None) × (first_line (unknown_pin instrs facts.pins) (unknown_target instrs) ≡ None) =
     no_line (unknown_start instrs start) (first_line (unknown_pin instrs facts.pins) (unknown_target instrs)) none in
     let two : (unknown_pin instrs facts.pins ≡ None) × (unknown_target instrs ≡ None) = no_line (unknown_pin instrs facts.pins) (unknown_target instrs) one.1 in
     record {
       start_known = known (has_label instrs start.label) start.line one.0;
       pins_known = λ k pin at. not-false (has_label instrs pin.label) (missed_at (λ (p : PinLine). not (has_label instrs p.label)) facts.pins k pin (unmapped (λ (p : PinLine). p.line) (find (λ (p : PinLine). not (has_label instrs p.label)) facts.pins) two.0) at);
-      targets_known = λ k instr at. missed_at (λ (i : InstrLine). list_any (is_unknown instrs) i.targets) instrs k instr (unmapped (λ (i : InstrLine). i.line) (find (λ (i : InstrLine). list_any (is_unknown instrs) i.targets) instrs) two.1) at;
+      targets_known = λ k instr at. missed_at (λ (i : NamedInstr). list_any (is_unknown instrs) i.targets) instrs k instr (unmapped (λ (i : NamedInstr). i.line) (find (λ (i : NamedInstr). list_any (is_unknown instrs) i.targets) instrs) two.1) at;
     }
   where
     known : (b : Bool) (line : ℕ) → cond b None (Some line) ≡ None → b ≡ true
@@ -62,7 +62,7 @@ are_known facts start none =
 -- ---- targets
 
 -- known targets of which one is a label are labels in range of which one is a label
-some_target : (instrs : List InstrLine) (targets : List (Option (List ℕ))) → list_any (is_unknown instrs) targets ≡ false → list_any is_some targets ≡ true → list_any is_some (map (target_place instrs) targets) ≡ true
+some_target : (instrs : List NamedInstr) (targets : List (Option (List ℕ))) → list_any (is_unknown instrs) targets ≡ false → list_any is_some targets ≡ true → list_any is_some (map (target_place instrs) targets) ≡ true
 some_target instrs [] known has = absurd (cc has)
 some_target instrs (None ∷ targets) known has = some_target instrs targets known has
 some_target instrs (Some name ∷ targets) known has =
@@ -70,7 +70,7 @@ some_target instrs (Some name ∷ targets) known has =
     let place : (place : ℕ) × StandsAt instrs name place = stands instrs name (not-false (has_label instrs name) here) in
     or_left (is_some (label_place instrs name)) (list_any is_some (map (target_place instrs) targets)) (ap is_some place.1.is_place)
 
-targets_within : (instrs : List InstrLine) (targets : List (Option (List ℕ))) → AreTargets (length instrs) (map (target_place instrs) targets)
+targets_within : (instrs : List NamedInstr) (targets : List (Option (List ℕ))) → AreTargets (length instrs) (map (target_place instrs) targets)
 targets_within instrs targets outcome label at =
     let from : (target : Option (List ℕ)) × (slice_get targets outcome ≡ Some target) × (target_place instrs target ≡ Some label) = from_map (target_place instrs) targets outcome (Some label) at in
     within from.0 from.2
@@ -84,16 +84,16 @@ targets_within instrs targets outcome label at =
 all_at : {X : Type 0} (P : X → Type 0) (xs : List X) (k : ℕ) (x : X) → All P xs → slice_get xs k ≡ Some x → P x
 all_at P xs k x all at = subst P (get_or_from_slice_get xs k x x at) (All-get_or P xs k x (slice_get_within xs k x at) all)
 
-label_at : (all instrs : List InstrLine) (k : ℕ) (instr : Instr) → slice_get (map (instr_of all) instrs) k ≡ Some instr → slice_get (labels_of instrs) k ≡ Some instr.name
+label_at : (all instrs : List NamedInstr) (k : ℕ) (instr : Instr) → slice_get (map (instr_of all) instrs) k ≡ Some instr → slice_get (labels_of instrs) k ≡ Some instr.name
 label_at all instrs k instr at =
-    let from : (line : InstrLine) × (slice_get instrs k ≡ Some line) × (instr_of all line ≡ instr) = from_map (instr_of all) instrs k instr at in
-    slice_get-map (λ (i : InstrLine). i.label) instrs k ∙ ap (option_map (λ (i : InstrLine). i.label)) from.1 ∙ ap (λ (i : Instr). Some i.name) from.2
+    let from : (line : NamedInstr) × (slice_get instrs k ≡ Some line) × (instr_of all line ≡ instr) = from_map (instr_of all) instrs k instr at in
+    slice_get-map (λ (i : NamedInstr). i.label) instrs k ∙ ap (option_map (λ (i : NamedInstr). i.label)) from.1 ∙ ap (λ (i : Instr). Some i.name) from.2
 
 instr_fits : (facts : Facts) (start : StartLine) → IsSound facts → AreKnown facts start → (k : ℕ) (instr : Instr) → slice_get (map (instr_of facts.instrs) facts.instrs) k ≡ Some instr → IsInstr (length (map (instr_of facts.instrs) facts.instrs)) instr
 instr_fits facts start sound known k instr at =
-    let instrs : List InstrLine = facts.instrs in
-    let from : (line : InstrLine) × (slice_get instrs k ≡ Some line) × (instr_of instrs line ≡ instr) = from_map (instr_of instrs) instrs k instr at in
-    let line : IsInstrLine (declaration_so_far facts.declared) from.0 = all_at (IsInstrLine (declaration_so_far facts.declared)) instrs k from.0 sound.instrs from.1 in
+    let instrs : List NamedInstr = facts.instrs in
+    let from : (line : NamedInstr) × (slice_get instrs k ≡ Some line) × (instr_of instrs line ≡ instr) = from_map (instr_of instrs) instrs k instr at in
+    let line : IsNamedInstr (declaration_so_far facts.declared) from.0 = all_at (IsNamedInstr (declaration_so_far facts.declared)) instrs k from.0 sound.instrs from.1 in
     let count : length instrs ≡ length (map (instr_of instrs) instrs) = sym (length-map instrs (instr_of instrs)) in
     let placed : IsInstr (length instrs) (instr_of instrs from.0) = record {
       name_not_empty = line.name.some;
@@ -124,11 +124,11 @@ pin_placed facts start known k pin at =
     }
 
 -- names that stand at one place are one name
-same_name : (instrs : List InstrLine) (a b : List ℕ) (i j : ℕ) → StandsAt instrs a i → StandsAt instrs b j → i ≡ j → bytes_eq a b ≡ true
+same_name : (instrs : List NamedInstr) (a b : List ℕ) (i j : ℕ) → StandsAt instrs a i → StandsAt instrs b j → i ≡ j → bytes_eq a b ≡ true
 same_name instrs a b i j at_i at_j same =
     let one : Some at_i.instr ≡ Some at_j.instr = sym at_i.at ∙ ap (slice_get instrs) same ∙ at_j.at in
     let instr : at_i.instr ≡ at_j.instr = cc one in
-    let mine : bytes_eq a at_j.instr.label ≡ true = subst (λ (x : InstrLine). bytes_eq a x.label ≡ true) instr at_i.named in
+    let mine : bytes_eq a at_j.instr.label ≡ true = subst (λ (x : NamedInstr). bytes_eq a x.label ≡ true) instr at_i.named in
     nat_list_eq_equiv.congr a at_j.instr.label b mine ∙ nat_list_eq_equiv.symm at_j.instr.label b ∙ at_j.named
 
 -- ---- the whole
@@ -136,7 +136,7 @@ same_name instrs a b i j at_i at_j same =
 pub program_fits : (facts : Facts) (start : StartLine) → IsSound facts → unknown_line facts start ≡ None
     → IsProgram (unwrap_or facts.rows 32) (unwrap_or (label_place facts.instrs start.label) 0) (map (pin_of facts.instrs) facts.pins) (map (instr_of facts.instrs) facts.instrs)
 program_fits facts start sound none =
-    let instrs : List InstrLine = facts.instrs in
+    let instrs : List NamedInstr = facts.instrs in
     let known : AreKnown facts start = are_known facts start none in
     let count : length (map (instr_of instrs) instrs) ≡ length instrs = length-map instrs (instr_of instrs) in
     let first : (place : ℕ) × StandsAt instrs start.label place = stands instrs start.label known.start_known in
@@ -167,13 +167,13 @@ completes : (slices : Option ℕ) (declared : Declared) (decl : Declaration) →
 completes None declared decl e = absurd (cc e)
 completes (Some slices) declared decl e = cc e
 
-microword_fits : (facts : Facts) (decl : Declaration) → IsSound facts → completed facts.declared ≡ Ok decl → (label : ℕ) (instr : Instr) → slice_get (map (instr_of facts.instrs) facts.instrs) label ≡ Some instr → IsMicroword decl instr
+microword_fits : (facts : Facts) (decl : Declaration) → IsSound facts → completed facts.declared ≡ Ok decl → (label : ℕ) (instr : Instr) → slice_get (map (instr_of facts.instrs) facts.instrs) label ≡ Some instr → FitsDeclaration decl instr
 microword_fits facts decl sound e label instr at =
-    let instrs : List InstrLine = facts.instrs in
-    let from : (line : InstrLine) × (slice_get instrs label ≡ Some line) × (instr_of instrs line ≡ instr) = from_map (instr_of instrs) instrs label instr at in
-    let line : IsInstrLine (declaration_so_far facts.declared) from.0 = all_at (IsInstrLine (declaration_so_far facts.declared)) instrs label from.0 sound.instrs from.1 in
-    let placed : IsMicroword (declaration_so_far facts.declared) (instr_of instrs from.0) = record { kbits = line.kbits; shift = line.shift; values = line.values } in
-    subst (λ (d : Declaration). IsMicroword d instr) (completes facts.declared.slices facts.declared decl e) (subst (IsMicroword (declaration_so_far facts.declared)) from.2 placed)
+    let instrs : List NamedInstr = facts.instrs in
+    let from : (line : NamedInstr) × (slice_get instrs label ≡ Some line) × (instr_of instrs line ≡ instr) = from_map (instr_of instrs) instrs label instr at in
+    let line : IsNamedInstr (declaration_so_far facts.declared) from.0 = all_at (IsNamedInstr (declaration_so_far facts.declared)) instrs label from.0 sound.instrs from.1 in
+    let placed : FitsDeclaration (declaration_so_far facts.declared) (instr_of instrs from.0) = record { kbits = line.kbits; shift = line.shift; values = line.values } in
+    subst (λ (d : Declaration). FitsDeclaration d instr) (completes facts.declared.slices facts.declared decl e) (subst (FitsDeclaration (declaration_so_far facts.declared)) from.2 placed)
 
-pub microwords_fit : (facts : Facts) (decl : Declaration) → IsSound facts → completed facts.declared ≡ Ok decl → AreMicrowords decl (map (instr_of facts.instrs) facts.instrs)
+pub microwords_fit : (facts : Facts) (decl : Declaration) → IsSound facts → completed facts.declared ≡ Ok decl → AllFitDeclaration decl (map (instr_of facts.instrs) facts.instrs)
 microwords_fit facts decl sound e = record { each = microword_fits facts decl sound e }

@@ -14,8 +14,8 @@ use Rattle.field_decl.specs.declared.fault.AsmKind.{AsmKind}
 use Rattle.field_decl.specs.declared.fault.AsmKind.TheVariants as kinds
 use Rattle.field_decl.specs.Fields.{has_field, is_sized, are_distinct}
 use Rattle.flow_graph.specs.Microwords.{AreValues}
-use Rattle.micro_asm.specs.declared.statement.Setting.{Setting}
-use Rattle.micro_asm.specs.declared.statement.Setting.TheVariants.{Flag, Value}
+use Rattle.micro_asm.specs.declared.setting.Setting.{Setting}
+use Rattle.micro_asm.specs.declared.setting.Setting.TheVariants.{Flag, Value}
 use Rattle.micro_asm.specs.Settings.{sets_field, flag_refusal, value_refusal, setting_refusal, settings_refusal, or_else, field_named, value_given, field_value, values_given}
 use Rattle.micro_asm.proofs.LabelLemmas.{any_at, there}
 

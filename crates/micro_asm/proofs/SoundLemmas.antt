@@ -4,17 +4,17 @@ use Rattle.std.specs.Prelude.{All}
 use Rattle.std.proofs.lemmas.List.{length-append}
 use Rattle.std.proofs.lemmas.List.Elements.{All-nil, All-push}
 use Rattle.field_decl.specs.Earlier.{Declared}
-use Rattle.micro_asm.specs.declared.lines.StartLine.{StartLine}
-use Rattle.micro_asm.specs.declared.lines.PinLine.{PinLine}
-use Rattle.micro_asm.specs.declared.lines.InstrLine.{InstrLine}
-use Rattle.micro_asm.specs.Earlier.{Facts, facts_of, IsSound, IsInstrLine, declaration_so_far, has_label, is_pinned, labels_of, pinned_labels, are_apart}
+use Rattle.micro_asm.specs.declared.accepted_lines.StartLine.{StartLine}
+use Rattle.micro_asm.specs.declared.accepted_lines.PinLine.{PinLine}
+use Rattle.micro_asm.specs.declared.accepted_lines.NamedInstr.{NamedInstr}
+use Rattle.micro_asm.specs.Earlier.{Facts, facts_of, IsSound, IsNamedInstr, declaration_so_far, has_label, is_pinned, labels_of, pinned_labels, are_apart}
 use Rattle.micro_asm.proofs.LabelLemmas.{label_among, labels_push, pinned_label, pinned_push, apart_push}
 
 -- nothing is said
 pub sound_none : IsSound (facts_of [])
 sound_none = record { some_row = omega arith; most_rows = omega arith; few = omega arith; labels_apart = refl; pins_apart = refl; instrs = All-nil _ }
 
-no_instrs : (instrs : List InstrLine) → length instrs ≡ 0 → instrs ≡ []
+no_instrs : (instrs : List NamedInstr) → length instrs ≡ 0 → instrs ≡ []
 no_instrs [] none = refl
 no_instrs (instr ∷ instrs) none = absurd (omega arith)
 
@@ -26,7 +26,7 @@ sound_declared facts declared h none = record {
   few = h.few;
   labels_apart = h.labels_apart;
   pins_apart = h.pins_apart;
-  instrs = subst (All (IsInstrLine (declaration_so_far declared))) (sym (no_instrs facts.instrs none)) (All-nil _);
+  instrs = subst (All (IsNamedInstr (declaration_so_far declared))) (sym (no_instrs facts.instrs none)) (All-nil _);
 }
 
 pub sound_rows : (facts : Facts) (rows : ℕ) → IsSound facts → 1 ≤ rows → rows ≤ 32 → IsSound (record facts { rows = Some rows })
@@ -59,12 +59,12 @@ sound_pin facts pin h new = record {
   instrs = h.instrs;
 }
 
-pub sound_instr : (facts : Facts) (instr : InstrLine) → IsSound facts → has_label facts.instrs instr.label ≡ false → length facts.instrs < 128 → IsInstrLine (declaration_so_far facts.declared) instr → IsSound (record facts { instrs = facts.instrs ++ instr ∷ [] })
+pub sound_instr : (facts : Facts) (instr : NamedInstr) → IsSound facts → has_label facts.instrs instr.label ≡ false → length facts.instrs < 128 → IsNamedInstr (declaration_so_far facts.declared) instr → IsSound (record facts { instrs = facts.instrs ++ instr ∷ [] })
 sound_instr facts instr h new few fits = record {
   some_row = h.some_row;
   most_rows = h.most_rows;
   few = omega (arith, length-append facts.instrs (instr ∷ []));
   labels_apart = subst (λ (names : List (List ℕ)). are_apart names ≡ true) (sym (labels_push facts.instrs instr)) (apart_push (labels_of facts.instrs) instr.label h.labels_apart (label_among instr.label facts.instrs ∙ new));
   pins_apart = h.pins_apart;
-  instrs = All-push (IsInstrLine (declaration_so_far facts.declared)) facts.instrs instr h.instrs fits;
+  instrs = All-push (IsNamedInstr (declaration_so_far facts.declared)) facts.instrs instr h.instrs fits;
 }

@@ -14,13 +14,13 @@ use Rattle.field_decl.specs.Words.{words_of}
 use Rattle.field_decl.proofs.LayoutLaw.{declared_push}
 use Rattle.micro_asm.specs.declared.fault.AsmFault.{AsmFault}
 use Rattle.micro_asm.specs.declared.fault.AsmFault.TheVariants as faults
-use Rattle.micro_asm.specs.declared.statement.Statement.{Statement}
+use Rattle.micro_asm.specs.declared.source_line.SourceLine.{SourceLine}
 use Rattle.micro_asm.specs.Earlier.{Line, Nothing, Declares, Rows, Starts, Pins, Instructs, Facts, facts_of, with_line, directive_in, rows_in, start_in, pin_in, instr_in}
 use Rattle.micro_asm.specs.Judging.{judged, taken}
 use Rattle.micro_asm.specs.Results.{RefusesAt, fault_at}
 use Rattle.micro_asm.specs.Source.{line_read, lines_read, program_of, source_of}
-use Rattle.micro_asm.specs.SourceSteps.{after_statement, after_line, after_lines}
-use Rattle.micro_asm.specs.Statements.{statement_form}
+use Rattle.micro_asm.specs.SourceSteps.{after_source_line, after_line, after_lines}
+use Rattle.micro_asm.specs.SourceLines.{source_line_form}
 
 first_push : {X : Type 0} (xs : List X) (y : X) → first (xs ++ y ∷ []) ≡ given_or (first xs) y
 first_push [] y = refl
@@ -51,14 +51,14 @@ taken_one : (earlier : List Line) (read : Result Line AsmKind) → taken (facts_
 taken_one earlier (Ok line) = ap ok_facts (sym (facts_push earlier line))
 taken_one earlier (Err kind) = refl
 
-formed_line : (earlier : List Line) (number : ℕ) (formed : Result Statement AsmKind)
-    → (formed >>= after_statement (facts_of earlier) number) ≡ ((formed >>= judged (facts_of earlier) number) >>= after earlier)
-formed_line earlier number (Ok statement) = taken_one earlier (judged (facts_of earlier) number statement)
+formed_line : (earlier : List Line) (number : ℕ) (formed : Result SourceLine AsmKind)
+    → (formed >>= after_source_line (facts_of earlier) number) ≡ ((formed >>= judged (facts_of earlier) number) >>= after earlier)
+formed_line earlier number (Ok source_line) = taken_one earlier (judged (facts_of earlier) number source_line)
 formed_line earlier number (Err kind) = refl
 
 worded_line : (earlier : List Line) (number : ℕ) (words : Result (List Word) AsmKind)
-    → (words >>= statement_form >>= after_statement (facts_of earlier) number) ≡ ((words >>= statement_form >>= judged (facts_of earlier) number) >>= after earlier)
-worded_line earlier number (Ok words) = formed_line earlier number (statement_form words)
+    → (words >>= source_line_form >>= after_source_line (facts_of earlier) number) ≡ ((words >>= source_line_form >>= judged (facts_of earlier) number) >>= after earlier)
+worded_line earlier number (Ok words) = formed_line earlier number (source_line_form words)
 worded_line earlier number (Err kind) = refl
 
 line_taken : (earlier : List Line) (line : List ℕ) → after_line (facts_of earlier) (length earlier + 1) line ≡ (line_read earlier line >>= after earlier)

@@ -1,4 +1,4 @@
--- What the accepted lines of a source say.
+-- What the accepted lines of a source say (this project's own choice).
 use Rattle.std.specs.Prelude.{◌≡◌, ℕ, ◌≤◌, List, [], ◌∷◌, ◌++◌, length, map, All, Bool, true, not, ◌&&◌, Option, Some, None, IsTrue, unwrap_or}
 use Rattle.std.specs.List.{filter_map, list_any}
 use Rattle.std.specs.Str.{bytes_eq}
@@ -9,9 +9,9 @@ use Rattle.field_decl.specs.Declaration.{Declaration}
 use Rattle.field_decl.specs.Earlier.{Declared, declared_by, declaration_with, with_directive, first, given_or}
 use Rattle.field_decl.specs.KBits.{has_kbits}
 use Rattle.flow_graph.specs.Microwords.{AreValues}
-use Rattle.micro_asm.specs.declared.lines.StartLine.{StartLine}
-use Rattle.micro_asm.specs.declared.lines.PinLine.{PinLine}
-use Rattle.micro_asm.specs.declared.lines.InstrLine.{InstrLine}
+use Rattle.micro_asm.specs.declared.accepted_lines.StartLine.{StartLine}
+use Rattle.micro_asm.specs.declared.accepted_lines.PinLine.{PinLine}
+use Rattle.micro_asm.specs.declared.accepted_lines.NamedInstr.{NamedInstr}
 use Rattle.micro_asm.specs.Flow.{AreTargetsOf}
 
 -- an accepted line
@@ -21,7 +21,7 @@ pub data Line : Type 0 where
   Rows : ℕ → Line
   Starts : StartLine → Line
   Pins : PinLine → Line
-  Instructs : InstrLine → Line
+  Instructs : NamedInstr → Line
 
 -- what was declared, the row bound and the start where they are given, and the pins and instructions in source order
 pub record Facts : Type 0 where
@@ -29,27 +29,32 @@ pub record Facts : Type 0 where
   pub rows : Option ℕ
   pub start : Option StartLine
   pub pins : List PinLine
-  pub instrs : List InstrLine
+  pub instrs : List NamedInstr
 
 -- ---- each part, of the list of the lines
 
+-- the directive, where the line declares
 abbrev pub directive_in : Line → Option Directive
 directive_in (Declares directive) = Some directive
 directive_in _ = None
 
+-- the row bound, where the line gives it
 abbrev pub rows_in : Line → Option ℕ
 rows_in (Rows rows) = Some rows
 rows_in _ = None
 
+-- the start, where the line names it
 abbrev pub start_in : Line → Option StartLine
 start_in (Starts start) = Some start
 start_in _ = None
 
+-- the pin, where the line pins
 abbrev pub pin_in : Line → Option PinLine
 pin_in (Pins pin) = Some pin
 pin_in _ = None
 
-abbrev pub instr_in : Line → Option InstrLine
+-- the instruction, where the line has one
+abbrev pub instr_in : Line → Option NamedInstr
 instr_in (Instructs instr) = Some instr
 instr_in _ = None
 
@@ -65,6 +70,7 @@ facts_of earlier = record {
 
 -- ---- what one line more adds
 
+-- what is said with one line more
 abbrev pub with_line : Facts → Line → Facts
 with_line facts Nothing = facts
 with_line facts (Declares directive) = record facts { declared = with_directive facts.declared directive }
@@ -76,7 +82,7 @@ with_line facts (Instructs instr) = record facts { instrs = facts.instrs ++ inst
 -- ---- labels
 
 -- an instruction has this label
-abbrev pub has_label : List InstrLine → List ℕ → Bool
+abbrev pub has_label : List NamedInstr → List ℕ → Bool
 has_label instrs name = list_any (λ instr. bytes_eq name instr.label) instrs
 
 -- a pin names this label
@@ -88,16 +94,18 @@ abbrev pub are_apart : List (List ℕ) → Bool
 are_apart [] = true
 are_apart (name ∷ names) = not (list_any (bytes_eq name) names) && are_apart names
 
-abbrev pub labels_of : List InstrLine → List (List ℕ)
+-- the labels of the instructions, in order
+abbrev pub labels_of : List NamedInstr → List (List ℕ)
 labels_of instrs = map (λ instr. instr.label) instrs
 
+-- the labels of the pins, in order
 abbrev pub pinned_labels : List PinLine → List (List ℕ)
 pinned_labels pins = map (λ pin. pin.label) pins
 
 -- ---- what accepted lines keep
 
 -- an instruction of this declaration
-pub record IsInstrLine (decl : Declaration) (instr : InstrLine) : Type 0 where
+pub record IsNamedInstr (decl : Declaration) (instr : NamedInstr) : Type 0 where
   pub name : IsName instr.label
   pub kbits : IsTrue (has_kbits decl.slices decl.kbus instr.mask)
   pub shift : IsTrue (is_shift instr.func) → instr.mask ≡ 0
@@ -115,4 +123,4 @@ pub record IsSound (facts : Facts) : Type 0 where
   pub few : length facts.instrs ≤ 128
   pub labels_apart : are_apart (labels_of facts.instrs) ≡ true
   pub pins_apart : are_apart (pinned_labels facts.pins) ≡ true
-  pub instrs : All (IsInstrLine (declaration_so_far facts.declared)) facts.instrs
+  pub instrs : All (IsNamedInstr (declaration_so_far facts.declared)) facts.instrs

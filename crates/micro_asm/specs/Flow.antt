@@ -2,12 +2,13 @@
 use Rattle.std.specs.Prelude.{ℕ, not, ◌==◌, List, length, Option, Some, None, is_some, Result, Ok, Err, codes, if◌then◌else◌, ◌≡◌, IsTrue}
 use Rattle.std.specs.List.{list_any}
 use Rattle.std.specs.Str.{bytes_eq}
-use Rattle.mcu_jumps.specs.declared.codes.Kind.{Kind}
-use Rattle.mcu_jumps.specs.declared.codes.Kind.TheVariants.{Goto, Strobe, Enable, IfF, IfC, IfZ, OnPr, OnPx, OnLeft, OnRight}
+use Rattle.mcu_jumps.specs.declared.kinds.Kind.{Kind}
+use Rattle.mcu_jumps.specs.declared.kinds.Kind.TheVariants.{Goto, Strobe, Enable, IfF, IfC, IfZ, OnPr, OnPx, OnLeft, OnRight}
 use Rattle.mcu_jumps.specs.Landing.{outcomes_of}
 use Rattle.field_decl.specs.declared.fault.AsmKind.{AsmKind}
 use Rattle.field_decl.specs.declared.fault.AsmKind.TheVariants as kinds
 
+-- the flow statements by name, and their targets
 unfoldable pub kind_named : List ℕ → Option Kind
 kind_named name =
     if bytes_eq name (codes "goto") then Some Goto

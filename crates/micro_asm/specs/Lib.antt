@@ -1,4 +1,4 @@
-pub mod Statements
+pub mod SourceLines
 pub mod Mnemonics
 pub mod Operations
 pub mod Settings

@@ -42,6 +42,7 @@ mnemonic_table =
 abbrev pub is_sized : Mnemonic → Bool
 is_sized row = nat_lt row.function 8 && (nat_le 1 row.group && nat_le row.group 3)
 
+-- the same as a fact
 pub record IsSized (row : Mnemonic) : Type 0 where
   pub function : row.function < 8
   pub some_group : 1 ≤ row.group

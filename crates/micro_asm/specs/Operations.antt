@@ -9,8 +9,8 @@ use Rattle.field_decl.specs.declared.fault.AsmKind.{AsmKind}
 use Rattle.field_decl.specs.declared.fault.AsmKind.TheVariants as kinds
 use Rattle.field_decl.specs.KBits.{has_kbits}
 use Rattle.micro_asm.specs.declared.mnemonics.Mnemonic.{Mnemonic}
-use Rattle.micro_asm.specs.declared.statement.Operation.{Operation}
-use Rattle.micro_asm.specs.declared.statement.Operation.TheVariants as operations
+use Rattle.micro_asm.specs.declared.operation.Operation.{Operation}
+use Rattle.micro_asm.specs.declared.operation.Operation.TheVariants as operations
 use Rattle.micro_asm.specs.Mnemonics.{mnemonic_table}
 
 -- R0 to R9
@@ -35,7 +35,8 @@ is_in_group group Ac = true
 abbrev pub is_masked_shift : ℕ → ℕ → ℕ → Bool
 is_masked_shift function group mask = function == 0 && group == 3 && not (mask == 0)
 
--- a function of a register in a group under a mask: the register, the mask's shape, and no mask for the right shift are tested
+-- a function of a register in a group under a mask: the register, the mask's shape, and no mask for the right shift
+-- are tested
 abbrev pub coded_for : ℕ → ℕ → ℕ → ℕ → ℕ → Option Reg → Result (ℕ × ℕ) AsmKind
 coded_for slices kbus function group mask None = Err kinds.Register
 coded_for slices kbus function group mask (Some register) =
@@ -48,6 +49,7 @@ coded_for slices kbus function group mask (Some register) =
 abbrev pub all_or_none : ℕ → Bool → ℕ
 all_or_none slices ones = if ones then 2 ^ (2 * slices) - 1 else 0
 
+-- the function code and the mask of a mnemonic with a register, or why they are refused
 abbrev pub mnemonic_code : ℕ → ℕ → List ℕ → Option Mnemonic → Result (ℕ × ℕ) AsmKind
 mnemonic_code slices kbus register None = Err kinds.Mnemonic
 mnemonic_code slices kbus register (Some row) = coded_for slices kbus row.function row.group (all_or_none slices row.ones) (register_named register)

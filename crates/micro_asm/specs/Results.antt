@@ -6,7 +6,8 @@ use Rattle.field_decl.specs.declared.fault.LineFault.TheVariants as line_faults
 use Rattle.micro_asm.specs.declared.fault.AsmFault.{AsmFault}
 use Rattle.micro_asm.specs.declared.fault.AsmFault.TheVariants as faults
 
--- a function refuses a source at just the line and for just the reason that it is to be refused; want of memory says nothing of the source
+-- a function refuses a source at just the line and for just the reason that it is to be refused; want of memory says
+-- nothing of the source
 abbrev pub RefusesAt : {A : Type 0} → AsmFault → Result A (ℕ × AsmKind) → Type 0
 RefusesAt faults.OutOfMemory meant = Unit {0}
 RefusesAt (faults.At line kind) meant = meant ≡ Err (line, kind)

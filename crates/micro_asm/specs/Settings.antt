@@ -10,11 +10,12 @@ use Rattle.mcu_chip.specs.declared.flags.FlagCtl.{FlagCtl}
 use Rattle.field_decl.specs.declared.field.Field.{Field}
 use Rattle.field_decl.specs.declared.fault.AsmKind.{AsmKind}
 use Rattle.field_decl.specs.declared.fault.AsmKind.TheVariants as kinds
-use Rattle.micro_asm.specs.declared.statement.Setting.{Setting}
-use Rattle.micro_asm.specs.declared.statement.Setting.TheVariants.{Flag, Value}
+use Rattle.micro_asm.specs.declared.setting.Setting.{Setting}
+use Rattle.micro_asm.specs.declared.setting.Setting.TheVariants.{Flag, Value}
 
 -- ---- the names of the flag functions
 
+-- the flag input function of a name
 abbrev pub input_named : List ℕ → Option FlagIn
 input_named name =
     if bytes_eq name (codes "SCZ") then Some Scz
@@ -23,6 +24,7 @@ input_named name =
     else if bytes_eq name (codes "HCZ") then Some Hcz
     else None
 
+-- the flag output function of a name
 abbrev pub output_named : List ℕ → Option FlagOut
 output_named name =
     if bytes_eq name (codes "FF0") then Some Ff0
@@ -48,6 +50,7 @@ abbrev pub sets_field : List ℕ → Setting → Bool
 sets_field name (Flag flag) = false
 sets_field name (Value field value) = bytes_eq name field
 
+-- the refusal of what was set before
 abbrev pub if_twice : Bool → Option AsmKind
 if_twice twice = if twice then Some kinds.SettingTwice else None
 
@@ -66,6 +69,7 @@ value_refusal twice value (Some field) =
     else if nat_le (2 ^ field.width) value then Some kinds.FieldValue
     else None
 
+-- the declared field of a name
 abbrev pub field_named : List Field → List ℕ → Option Field
 field_named fields name = find (λ field. bytes_eq name field.name) fields
 
@@ -74,6 +78,7 @@ abbrev pub setting_refusal : List Field → List Setting → Setting → Option 
 setting_refusal fields earlier (Flag name) = flag_refusal earlier name
 setting_refusal fields earlier (Value name value) = value_refusal (list_any (sets_field name) earlier) value (field_named fields name)
 
+-- the first refusal of two
 abbrev pub or_else : Option AsmKind → Option AsmKind → Option AsmKind
 or_else None later = later
 or_else (Some kind) later = Some kind
@@ -85,6 +90,7 @@ settings_refusal fields earlier (setting ∷ later) = or_else (setting_refusal f
 
 -- ---- what accepted settings give
 
+-- the first value of two that is given
 abbrev pub given_first : {X : Type 0} → Option X → Option X → Option X
 given_first (Some x) later = Some x
 given_first None later = later
@@ -115,5 +121,6 @@ flags_given settings = record { input = unwrap_or (input_given settings) Hcz; ou
 abbrev pub field_value : List Setting → Field → ℕ
 field_value settings field = unwrap_or (value_given field.name settings) field.default
 
+-- the values of all fields, in their order
 abbrev pub values_given : List Field → List Setting → List ℕ
 values_given fields settings = map (field_value settings) fields

@@ -12,10 +12,10 @@ use Rattle.field_decl.specs.Words.{words_of}
 use Rattle.flow_graph.specs.declared.instructions.Instr.{Instr}
 use Rattle.flow_graph.specs.declared.pinning.Pin.{Pin}
 use Rattle.flow_graph.specs.Graph.{Graph}
-use Rattle.micro_asm.specs.declared.lines.StartLine.{StartLine}
-use Rattle.micro_asm.specs.declared.lines.PinLine.{PinLine}
-use Rattle.micro_asm.specs.declared.lines.InstrLine.{InstrLine}
-use Rattle.micro_asm.specs.Statements.{statement_form}
+use Rattle.micro_asm.specs.declared.accepted_lines.StartLine.{StartLine}
+use Rattle.micro_asm.specs.declared.accepted_lines.PinLine.{PinLine}
+use Rattle.micro_asm.specs.declared.accepted_lines.NamedInstr.{NamedInstr}
+use Rattle.micro_asm.specs.SourceLines.{source_line_form}
 use Rattle.micro_asm.specs.Earlier.{Line, Facts, facts_of, has_label}
 use Rattle.micro_asm.specs.Judging.{judged}
 
@@ -23,7 +23,7 @@ use Rattle.micro_asm.specs.Judging.{judged}
 
 -- what a line says after these lines, or why it is refused
 unfoldable pub line_read : List Line → List ℕ → Result Line AsmKind
-line_read earlier line = words_of line >>= statement_form >>= judged (facts_of earlier) (length earlier + 1)
+line_read earlier line = words_of line >>= source_line_form >>= judged (facts_of earlier) (length earlier + 1)
 
 -- what these and the further lines say, or the first line that is refused, by its number
 unfoldable pub lines_read : List Line → List (List ℕ) → Result (List Line) (ℕ × AsmKind)
@@ -32,20 +32,21 @@ lines_read earlier (line ∷ rest) = in_line (length earlier + 1) (line_read ear
 
 -- ---- labels that no instruction has
 
-abbrev pub is_unknown : List InstrLine → Option (List ℕ) → Bool
+-- a target that names a label which no instruction has
+abbrev pub is_unknown : List NamedInstr → Option (List ℕ) → Bool
 is_unknown instrs None = false
 is_unknown instrs (Some label) = not (has_label instrs label)
 
 -- the line of the start, where it names an unknown label
-abbrev pub unknown_start : List InstrLine → StartLine → Option ℕ
+abbrev pub unknown_start : List NamedInstr → StartLine → Option ℕ
 unknown_start instrs start = if has_label instrs start.label then None else Some start.line
 
 -- the line of the first pin that names an unknown label
-abbrev pub unknown_pin : List InstrLine → List PinLine → Option ℕ
+abbrev pub unknown_pin : List NamedInstr → List PinLine → Option ℕ
 unknown_pin instrs pins = option_map (λ pin. pin.line) (find (λ pin. not (has_label instrs pin.label)) pins)
 
 -- the line of the first instruction with an unknown target
-abbrev pub unknown_target : List InstrLine → Option ℕ
+abbrev pub unknown_target : List NamedInstr → Option ℕ
 unknown_target instrs = option_map (λ instr. instr.line) (find (λ instr. list_any (is_unknown instrs) instr.targets) instrs)
 
 -- the lesser of two lines
@@ -61,17 +62,19 @@ unknown_line facts start = first_line (unknown_start facts.instrs start) (first_
 -- ---- the program
 
 -- a label is the place of its instruction
-abbrev pub label_place : List InstrLine → List ℕ → Option ℕ
+abbrev pub label_place : List NamedInstr → List ℕ → Option ℕ
 label_place instrs name = position (λ instr. bytes_eq name instr.label) instrs
 
-abbrev pub pin_of : List InstrLine → PinLine → Pin
+-- a pin with its label's number for the name
+abbrev pub pin_of : List NamedInstr → PinLine → Pin
 pin_of instrs pin = record { label = unwrap_or (label_place instrs pin.label) 0; cell = pin.cell }
 
 -- `-` is the trap
-abbrev pub target_place : List InstrLine → Option (List ℕ) → Option ℕ
+abbrev pub target_place : List NamedInstr → Option (List ℕ) → Option ℕ
 target_place instrs target = option_and_then (label_place instrs) target
 
-abbrev pub instr_of : List InstrLine → InstrLine → Instr
+-- an instruction with its targets' numbers for the names
+abbrev pub instr_of : List NamedInstr → NamedInstr → Instr
 instr_of instrs instr = record {
   name = instr.label;
   line = instr.line;
@@ -93,6 +96,7 @@ graph_with facts start declaration = record {
   instrs = map (instr_of facts.instrs) facts.instrs;
 }
 
+-- the graph as an answer
 abbrev pub ok_graph : Facts → StartLine → Declaration → Result Graph (ℕ × AsmKind)
 ok_graph facts start declaration = Ok (graph_with facts start declaration)
 
@@ -100,10 +104,12 @@ ok_graph facts start declaration = Ok (graph_with facts start declaration)
 abbrev pub built : Facts → StartLine → Result Graph (ℕ × AsmKind)
 built facts start = in_line 0 (completed facts.declared) >>= ok_graph facts start
 
+-- the graph, unless a line names an unknown label
 abbrev pub unless_unknown : Option ℕ → Result Graph (ℕ × AsmKind) → Result Graph (ℕ × AsmKind)
 unless_unknown None graph = graph
 unless_unknown (Some line) graph = Err (line, UnknownLabel)
 
+-- the graph, unless there is no start or a line names an unknown label
 abbrev pub started : Facts → Option StartLine → Result Graph (ℕ × AsmKind)
 started facts None = Err (0, NoStart)
 started facts (Some start) = unless_unknown (unknown_line facts start) (built facts start)

@@ -12,6 +12,7 @@ use std::alloc::AllocError;
 pub enum AsmFault {
     /// The first refused line, from 1, or line 0 for what the whole source lacks.
     At { line: u32, kind: AsmKind },
+    /// Memory was refused.
     OutOfMemory,
 }
 

@@ -4,8 +4,8 @@ ghost use Rattle.std.specs.Prelude.{◌≡◌, ◌++◌, ◌∷◌, ◌<◌, [],
 ghost use Rattle.micro_asm.specs.Earlier.{has_label};
 ghost use Rattle.micro_asm.specs.Source.{label_place};
 
+use crate::accepted_lines::NamedInstr;
 use crate::label_set::add_label;
-use crate::lines::InstrLine;
 use field_decl::Name;
 use indexmap::IndexSet;
 use std::alloc::{AllocError, Global};
@@ -15,14 +15,14 @@ use std::marker::Model;
 #[derive(Drop)]
 pub struct InstrTable {
     labels: IndexSet<Name>,
-    instrs: Vec<InstrLine>,
+    instrs: Vec<NamedInstr>,
 }
 
 impl Model for InstrTable {
     ghost use Rattle.std.specs.Prelude.{◌≡◌, List, map};
-    ghost use Rattle.micro_asm.specs.declared.lines.InstrLine.{InstrLine};
+    ghost use Rattle.micro_asm.specs.declared.accepted_lines.NamedInstr.{NamedInstr};
 
-    ghost Value = { List InstrLine };
+    ghost Value = { List NamedInstr };
 
     ghost view = { λ table. table.instrs.items };
 
@@ -30,6 +30,7 @@ impl Model for InstrTable {
 }
 
 impl InstrTable {
+    /// No instructions.
     pub fn new(alloc: Global) -> InstrTable
         ensures { result ≡ [] }
     {
@@ -46,7 +47,7 @@ impl InstrTable {
         self.labels.contains(label)
     }
 
-    /// The place of the instruction that has this label.
+    /// The place, from 0, of the instruction that has this label.
     pub fn place(&self, label: &Name) -> Option<usize>
         ensures place { result ≡ label_place self.now label.now }
         ensures within { IfSome result (λ place. place < length self.now) }
@@ -55,7 +56,7 @@ impl InstrTable {
     }
 
     /// Adds an instruction of a new label at the end.
-    pub fn push(&mut self, instr: InstrLine) -> Result<(), AllocError>
+    pub fn push(&mut self, instr: NamedInstr) -> Result<(), AllocError>
         requires { has_label self.old instr.label ≡ false }
         ensures added { OnOk result (self.new ≡ self.old ++ instr ∷ []) }
         ensures unchanged { OnErr result (self.new ≡ self.old) }
@@ -72,7 +73,7 @@ impl InstrTable {
     }
 
     /// The instructions in order.
-    pub fn as_slice(&self) -> &[InstrLine]
+    pub fn as_slice(&self) -> &[NamedInstr]
         ensures { result.now ≡ self.now }
     {
         &self.instrs

@@ -3,14 +3,14 @@
 ghost use Rattle.std.specs.Prelude.{◌≡◌, Some, IfOk};
 ghost use Rattle.field_decl.specs.Earlier.{declaration_with};
 ghost use Rattle.field_decl.specs.Results.{GivesKind};
-ghost use Rattle.micro_asm.specs.Earlier.{IsInstrLine};
+ghost use Rattle.micro_asm.specs.Earlier.{IsNamedInstr};
 ghost use Rattle.micro_asm.specs.Judging.{instruction_read};
 
-use crate::flow::flow_kind;
-use crate::lines::InstrLine;
+use crate::accepted_lines::NamedInstr;
+use crate::flow_names::flow_kind;
 use crate::operations::operation_code;
 use crate::settings::{flags_given, settings_refusal, values_given};
-use crate::statement::Instruction;
+use crate::written_instruction::WrittenInstr;
 use field_decl::{AsmKind, DeclState};
 
 /// What an instruction says on so many slices, after these declarations, or why it is refused.
@@ -19,12 +19,12 @@ pub fn read_instruction(
     slices: u8,
     decl: &DeclState,
     line: u32,
-    instruction: Instruction,
-) -> Result<InstrLine, AsmKind>
+    instruction: WrittenInstr,
+) -> Result<NamedInstr, AsmKind>
     requires { decl.now.slices ≡ Some slices }
     ensures meant { GivesKind (λ instr. instr) result (instruction_read slices decl.now line instruction) }
     ensures label { IfOk result (λ instr. instr.label ≡ instruction.label) }
-    ensures fits { IfOk result (IsInstrLine (declaration_with slices decl.now)) }
+    ensures fits { IfOk result (IsNamedInstr (declaration_with slices decl.now)) }
 {
     // A proof learns here that these bytes are a name.
     let _text = instruction.label.as_slice();
@@ -43,7 +43,7 @@ pub fn read_instruction(
     };
     let ctl = flags_given(settings);
     let values = values_given(fields, settings);
-    Ok(InstrLine {
+    Ok(NamedInstr {
         line,
         label: instruction.label,
         func,

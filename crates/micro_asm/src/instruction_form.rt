@@ -3,13 +3,16 @@
 ghost use Rattle.std.specs.Prelude.{◌≡◌, [], map, None, Some, IfOk, MatchOption};
 ghost use Rattle.std.specs.List.{list_all};
 ghost use Rattle.field_decl.specs.Results.{Gives};
-ghost use Rattle.micro_asm.specs.Statements.{code_form, operation_form, settings_form, IsFirstSetting, is_target, target_of, flow_form, instruction_form};
+ghost use Rattle.micro_asm.specs.SourceLines.{code_form, operation_form, settings_form, IsFirstSetting, is_target, target_of, flow_form, instruction_form};
 
-use crate::statement::{Instruction, Operation, Setting, Settings, Statement, TargetNames};
+use crate::operation::Operation;
+use crate::setting::{Setting, Settings};
+use crate::source_line::SourceLine;
+use crate::written_instruction::{TargetNames, WrittenInstr};
 use field_decl::{AsmKind, LineFault, Name, Word};
 use std::alloc::{AllocError, Global};
 
-/// The function code behind `fn` and the number of its function, and the words behind it.
+// The function code behind `fn` and the number of its function, and the words behind it.
 fn code_form(function: u128, words: &[Word]) -> Option<(Operation, &[Word])>
     ensures { MatchOption result (code_form function words.now ≡ None) (λ read. code_form function words.now ≡ Some (read.0, read.1.now)) }
 {
@@ -24,7 +27,7 @@ fn code_form(function: u128, words: &[Word]) -> Option<(Operation, &[Word])>
     }
 }
 
-/// The operation at the front, and the words behind it.
+// The operation at the front, and the words behind it.
 fn operation_form(words: &[Word]) -> Option<(Operation, &[Word])>
     ensures { MatchOption result (operation_form words.now ≡ None) (λ read. operation_form words.now ≡ Some (read.0, read.1.now)) }
 {
@@ -44,8 +47,8 @@ fn operation_form(words: &[Word]) -> Option<(Operation, &[Word])>
     }
 }
 
-/// The setting at the front, and the words behind it.
-#[tactic(auto, unfolding(crate::specs::Statements::settings_form))]
+// The setting at the front, and the words behind it.
+#[tactic(auto, unfolding(crate::specs::SourceLines::settings_form))]
 fn setting_form(words: &[Word]) -> Option<(Setting, &[Word])>
     ensures { MatchOption result (settings_form words.now ≡ ([], words.now)) (λ read. IsFirstSetting words.now read.0 read.1.now) }
 {
@@ -61,7 +64,7 @@ fn setting_form(words: &[Word]) -> Option<(Setting, &[Word])>
     }
 }
 
-/// The settings at the front, and the words behind them.
+// The settings at the front, and the words behind them.
 fn settings_form(alloc: Global, words: &[Word]) -> Result<(Settings, &[Word]), AllocError>
     ensures { IfOk result (λ read. (read.0, read.1.now) ≡ settings_form words.now) }
 {
@@ -108,22 +111,22 @@ fn targets_of(alloc: Global, words: &[Word]) -> Result<TargetNames, AllocError>
     Ok(TargetNames::of(targets))
 }
 
-/// The flow statement behind the operation and the settings of an instruction.
+// The flow statement behind the operation and the settings of an instruction.
 fn flow_form(
     alloc: Global,
     label: Name,
     operation: Operation,
     settings: Settings,
     words: &[Word],
-) -> Result<Statement, LineFault>
-    ensures { Gives (λ statement. statement) result (flow_form label operation settings words.now) }
+) -> Result<SourceLine, LineFault>
+    ensures { Gives (λ source_line. source_line) result (flow_form label operation settings words.now) }
 {
     match words {
         [Word::Bar, Word::Name(flow), targets @ ..] => {
             if !are_targets(targets) {
                 return Err(LineFault::Kind(AsmKind::Shape));
             }
-            Ok(Statement::Instruct(Instruction {
+            Ok(SourceLine::Instruct(WrittenInstr {
                 label,
                 operation,
                 settings,
@@ -136,8 +139,8 @@ fn flow_form(
 }
 
 /// The instruction of a label with these words behind the `:`.
-pub fn instruction_form(alloc: Global, label: Name, words: &[Word]) -> Result<Statement, LineFault>
-    ensures { Gives (λ statement. statement) result (instruction_form label words.now) }
+pub fn instruction_form(alloc: Global, label: Name, words: &[Word]) -> Result<SourceLine, LineFault>
+    ensures { Gives (λ source_line. source_line) result (instruction_form label words.now) }
 {
     let Some((operation, rest)) = operation_form(words) else {
         return Err(LineFault::Kind(AsmKind::Shape));

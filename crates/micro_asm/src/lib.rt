@@ -1,27 +1,30 @@
-//! The assembler: a source with symbolic flow read as a program, or refused.
+//! The assembler: a source with symbolic flow read as a program, or refused. Layer: language.
 //!
 //! `assemble` gives just the program that a source means, or just its first refused line with the
 //! reason. Each line is judged against all earlier lines; labels that no instruction has are told at
 //! the end. The language is this project's own choice.
 #![tactic(auto)]
 
+mod accepted_lines;
 mod fault;
-mod flow;
+mod finishing;
+mod flow_names;
 mod instr_table;
 mod instruction;
 mod instruction_form;
 mod label_set;
-mod lines;
 mod mnemonics;
+mod operation;
 mod operations;
 mod pin_table;
-mod program;
+mod setting;
 mod settings;
 mod source;
+mod source_line;
+mod source_line_form;
 mod source_state;
-mod statement;
-mod statement_form;
 mod unknown_labels;
+mod written_instruction;
 
 pub use fault::AsmFault;
 pub use source::assemble;

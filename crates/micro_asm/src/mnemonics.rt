@@ -7,12 +7,17 @@ ghost use Rattle.micro_asm.specs.Mnemonics.{mnemonic_table, is_sized, IsSized};
 
 use field_decl::Name;
 
-/// A name of an operation: its function, its register group, and whether its mask is all ones or none.
+/// A mnemonic, which names an operation. The names are Intel's; which code has which is this project's own
+/// table.
 #[derive(Clone, Copy)]
 pub struct Mnemonic {
+    /// Three capital letters.
     pub name: [u8; 3],
+    /// The function, 0 to 7.
     pub function: u8,
+    /// The register group, 1 to 3.
     pub group: u8,
+    /// Whether the mask is all ones; else it is 0.
     pub ones: bool,
 }
 
@@ -253,7 +258,7 @@ static MNEMONICS: [Mnemonic; 39] = [
     },
 ];
 
-/// The first row of this name.
+// The first row of this name.
 fn find_row(rows: &[Mnemonic], name: &Name) -> Option<Mnemonic>
     requires { IsTrue (list_all is_sized rows.now) }
     ensures row { result ≡ find (λ row. bytes_eq name.now row.name) rows.now }
@@ -267,7 +272,7 @@ fn find_row(rows: &[Mnemonic], name: &Name) -> Option<Mnemonic>
     None
 }
 
-/// The operation of this name.
+/// The operation of this name, or None where the table has no such name.
 pub fn find_mnemonic(name: &Name) -> Option<Mnemonic>
     ensures row { result ≡ find (λ row. bytes_eq name.now row.name) mnemonic_table }
     ensures sized { IfSome result (λ row. IsSized row) }

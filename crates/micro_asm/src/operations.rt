@@ -8,11 +8,11 @@ ghost use Rattle.micro_asm.specs.Mnemonics.{mnemonic_table};
 ghost use Rattle.micro_asm.specs.Operations.{numbered_register, register_named, is_in_group, is_masked_shift, coded_for, all_or_none, mnemonic_code, operation_code, FitsBus};
 
 use crate::mnemonics::find_mnemonic;
-use crate::statement::Operation;
+use crate::operation::Operation;
 use cpe_slice::{Fn7, Reg};
 use field_decl::{AsmKind, Name, has_kbits};
 
-/// R0 to R9.
+// R0 to R9.
 fn numbered_register(name: &[u8]) -> Option<Reg>
     ensures register { result ≡ numbered_register name.now }
     ensures ten { IfSome result IsRegister }
@@ -29,7 +29,7 @@ fn numbered_register(name: &[u8]) -> Option<Reg>
     }
 }
 
-/// The register of a name: R0 to R9, T, AC.
+// The register of a name: R0 to R9, T, AC.
 #[tactic(auto, unfolding(crate::specs::Operations::register_named))]
 fn register_named(name: &Name) -> Option<Reg>
     ensures register { result ≡ register_named name.now }
@@ -53,14 +53,14 @@ fn is_in_group(group: u8, register: Reg) -> bool
     }
 }
 
-/// Whether this is the right shift with a mask.
+// Whether this is the right shift with a mask.
 fn is_masked_shift(function: u8, group: u8, mask: u128) -> bool
     ensures { result ≡ is_masked_shift function group mask }
 {
     function == 0 && group == 3 && mask != 0
 }
 
-/// The code of a function of a register that its group has.
+// The code of a function of a register that its group has.
 fn code_in_group(function: u8, group: u8, register: Reg) -> Fn7
     requires function { function < 8 }
     requires group { (1 ≤ group) × (group ≤ 3) }
@@ -75,8 +75,8 @@ fn code_in_group(function: u8, group: u8, register: Reg) -> Fn7
     }
 }
 
-/// A function of a register in a group under a mask: tests the register, the mask's shape, and that the
-/// right shift has no mask.
+// A function of a register in a group under a mask: tests the register, the mask's shape, and that the
+// right shift has no mask.
 fn coded(
     slices: u8,
     kbus: u8,
@@ -106,7 +106,7 @@ fn coded(
     Ok((code_in_group(function, group, register), mask as u32))
 }
 
-/// The mask of all ones, or of none.
+// The mask of all ones, or of none.
 fn all_or_none(slices: u8, ones: bool) -> u128
     requires { slices ≤ 16 }
     ensures { result ≡ all_or_none slices ones }

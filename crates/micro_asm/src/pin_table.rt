@@ -3,8 +3,8 @@
 ghost use Rattle.std.specs.Prelude.{◌≡◌, ◌++◌, ◌∷◌, [], false, OnOk, OnErr};
 ghost use Rattle.micro_asm.specs.Earlier.{is_pinned};
 
+use crate::accepted_lines::PinLine;
 use crate::label_set::add_label;
-use crate::lines::PinLine;
 use field_decl::Name;
 use indexmap::IndexSet;
 use std::alloc::{AllocError, Global};
@@ -19,7 +19,7 @@ pub struct PinTable {
 
 impl Model for PinTable {
     ghost use Rattle.std.specs.Prelude.{◌≡◌, List, map};
-    ghost use Rattle.micro_asm.specs.declared.lines.PinLine.{PinLine};
+    ghost use Rattle.micro_asm.specs.declared.accepted_lines.PinLine.{PinLine};
 
     ghost Value = { List PinLine };
 
@@ -29,6 +29,7 @@ impl Model for PinTable {
 }
 
 impl PinTable {
+    /// No pins.
     pub fn new(alloc: Global) -> PinTable
         ensures { result ≡ [] }
     {

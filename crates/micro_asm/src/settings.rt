@@ -6,11 +6,11 @@ ghost use Rattle.field_decl.specs.Fields.{is_sized, are_distinct};
 ghost use Rattle.flow_graph.specs.Microwords.{AreValues};
 ghost use Rattle.micro_asm.specs.Settings.{input_named, output_named, sets_input, sets_output, sets_field, if_twice, flag_refusal, field_named, value_refusal, setting_refusal, settings_refusal, input_given, output_given, value_given, flags_given, field_value, values_given};
 
-use crate::statement::Setting;
+use crate::setting::Setting;
 use field_decl::{AsmKind, Field, FieldValues, Name};
 use mcu_chip::{FlagCtl, FlagIn, FlagOut};
 
-/// The flag input function of a name.
+// The flag input function of a name.
 fn input_named(name: &Name) -> Option<FlagIn>
     ensures { result ≡ input_named name.now }
 {
@@ -27,7 +27,7 @@ fn input_named(name: &Name) -> Option<FlagIn>
     }
 }
 
-/// The flag output function of a name.
+// The flag output function of a name.
 fn output_named(name: &Name) -> Option<FlagOut>
     ensures { result ≡ output_named name.now }
 {
@@ -99,7 +99,7 @@ fn any_sets_field(settings: &[Setting], name: &Name) -> bool
     settings.iter().any(|setting| sets_field(name, setting))
 }
 
-/// Why a flag function is refused after these settings.
+// Why a flag function is refused after these settings.
 fn flag_refusal(earlier: &[Setting], name: &Name) -> Option<AsmKind>
     ensures { result ≡ flag_refusal earlier.now name.now }
 {
@@ -112,7 +112,7 @@ fn flag_refusal(earlier: &[Setting], name: &Name) -> Option<AsmKind>
     }
 }
 
-/// The field of a name.
+// The field of a name.
 fn field_named(fields: &[Field], name: &Name) -> Option<Field>
     ensures { result ≡ field_named fields.now name.now }
 {
@@ -124,7 +124,7 @@ fn field_named(fields: &[Field], name: &Name) -> Option<Field>
     None
 }
 
-/// The field of a name, which is at most 32 bits wide.
+// The field of a name, which is at most 32 bits wide.
 fn narrow_field(fields: &[Field], name: &Name) -> Option<Field>
     requires { list_all is_sized fields.now ≡ true }
     ensures field { result ≡ field_named fields.now name.now }
@@ -133,7 +133,7 @@ fn narrow_field(fields: &[Field], name: &Name) -> Option<Field>
     field_named(fields, name)
 }
 
-/// Why a value of a field is refused after these settings.
+// Why a value of a field is refused after these settings.
 fn value_refusal(fields: &[Field], earlier: &[Setting], name: &Name, value: u128) -> Option<AsmKind>
     requires { list_all is_sized fields.now ≡ true }
     ensures { result ≡ value_refusal (list_any (sets_field name.now) earlier.now) value (field_named fields.now name.now) }
@@ -150,7 +150,7 @@ fn value_refusal(fields: &[Field], earlier: &[Setting], name: &Name, value: u128
     None
 }
 
-/// Why a setting is refused after these of its line.
+// Why a setting is refused after these of its line.
 fn setting_refusal(fields: &[Field], earlier: &[Setting], setting: &Setting) -> Option<AsmKind>
     requires { list_all is_sized fields.now ≡ true }
     ensures { result ≡ setting_refusal fields.now earlier.now setting.now }
@@ -175,7 +175,7 @@ pub fn settings_refusal(fields: &[Field], settings: &[Setting]) -> Option<AsmKin
     None
 }
 
-/// The flag input function that is set.
+// The flag input function that is set.
 #[tactic(auto, unfolding(crate::specs::Settings::input_given))]
 fn input_given(settings: &[Setting]) -> Option<FlagIn>
     ensures { result ≡ input_given settings.now }
@@ -190,7 +190,7 @@ fn input_given(settings: &[Setting]) -> Option<FlagIn>
     None
 }
 
-/// The flag output function that is set.
+// The flag output function that is set.
 #[tactic(auto, unfolding(crate::specs::Settings::output_given))]
 fn output_given(settings: &[Setting]) -> Option<FlagOut>
     ensures { result ≡ output_given settings.now }
@@ -215,7 +215,7 @@ pub fn flags_given(settings: &[Setting]) -> FlagCtl
     }
 }
 
-/// The value that is set for the field of a name.
+// The value that is set for the field of a name.
 #[tactic(auto, unfolding(crate::specs::Settings::value_given))]
 fn value_given(name: &Name, settings: &[Setting]) -> Option<u128>
     ensures { result ≡ value_given name.now settings.now }
@@ -230,7 +230,7 @@ fn value_given(name: &Name, settings: &[Setting]) -> Option<u128>
     None
 }
 
-/// The value of the field at a place: what is set, or its default.
+// The value of the field at a place: what is set, or its default.
 fn field_value(fields: &[Field], settings: &[Setting], place: usize) -> u32
     requires place { place < length fields.now }
     requires sized { list_all is_sized fields.now ≡ true }

@@ -10,14 +10,14 @@ ghost use Rattle.micro_asm.specs.Source.{source_of};
 ghost use Rattle.micro_asm.specs.SourceSteps.{after_line, after_lines};
 
 use crate::fault::{AsmFault, fault_at};
+use crate::source_line_form::source_line_form;
 use crate::source_state::SourceState;
-use crate::statement_form::statement_form;
 use field_decl::{LineFault, line_words};
 use flow_graph::Program;
 use micro_lex::next_line;
 use std::alloc::Global;
 
-/// Takes one line more of a source.
+// Takes one line more of a source.
 #[tactic(auto, unfolding(crate::specs::SourceSteps::after_line))]
 fn take_line(
     alloc: Global,
@@ -29,11 +29,11 @@ fn take_line(
     ensures { Gives (λ _. state.new) result (after_line state.old number line.now) }
 {
     let words = line_words(alloc, line)?;
-    let statement = statement_form(alloc, &words)?;
-    state.take(number, statement)
+    let source_line = source_line_form(alloc, &words)?;
+    state.take(number, source_line)
 }
 
-/// Takes all lines of a source.
+// Takes all lines of a source.
 #[tactic(auto, unfolding(crate::specs::SourceSteps::after_lines))]
 fn take_lines(alloc: Global, bytes: &[u8]) -> Result<SourceState, AsmFault>
     requires { length bytes.now < 2 ^ 32 }

@@ -2,16 +2,17 @@
 
 ghost use Rattle.std.specs.Prelude.{◌≡◌, []};
 ghost use Rattle.field_decl.specs.Results.{Gives};
-ghost use Rattle.micro_asm.specs.declared.statement.Statement.TheVariants as statements;
+ghost use Rattle.micro_asm.specs.declared.source_line.SourceLine.TheVariants as source_lines;
 ghost use Rattle.micro_asm.specs.Earlier.{facts_of};
 ghost use Rattle.micro_asm.specs.Judging.{is_late};
-ghost use Rattle.micro_asm.specs.SourceSteps.{after_statement};
+ghost use Rattle.micro_asm.specs.SourceSteps.{after_source_line};
 
+use crate::accepted_lines::{PinLine, StartLine};
 use crate::instr_table::InstrTable;
 use crate::instruction::read_instruction;
-use crate::lines::{PinLine, StartLine};
 use crate::pin_table::PinTable;
-use crate::statement::{Instruction, Statement};
+use crate::source_line::SourceLine;
+use crate::written_instruction::WrittenInstr;
 use field_decl::{AsmKind, DeclState, Directive, LineFault, Name};
 use mcu_jumps::Cell;
 use std::alloc::Global;
@@ -20,13 +21,18 @@ use std::marker::Model;
 /// The most instructions of a source.
 const INSTRUCTION_LIMIT: usize = 128;
 
-/// What was said so far. Statements come in one by one, each judged after those before it.
+/// What was said so far. Source lines come in one by one, each judged after those before it.
 #[derive(Drop)]
 pub struct SourceState {
+    /// What was declared.
     pub(crate) decl: DeclState,
+    /// The row bound, 1 to 32, where it is given.
     pub(crate) rows: Option<u8>,
+    /// The start, where it is given.
     pub(crate) start: Option<StartLine>,
+    /// The pins.
     pub(crate) pins: PinTable,
+    /// The instructions.
     pub(crate) instrs: InstrTable,
 }
 
@@ -55,7 +61,7 @@ impl SourceState {
         }
     }
 
-    /// Whether an instruction line came before.
+    // Whether an instruction line came before.
     fn is_late(&self) -> bool
         ensures { result ≡ is_late self.now }
     {
@@ -64,7 +70,7 @@ impl SourceState {
 
     #[tactic(auto, unfolding(crate::specs::Judging::judged))]
     fn take_directive(&mut self, line: u32, directive: Directive) -> Result<(), LineFault>
-        ensures { Gives (λ _. self.new) result (after_statement self.old line (statements.Declares directive)) }
+        ensures { Gives (λ _. self.new) result (after_source_line self.old line (source_lines.Declares directive)) }
     {
         if !self.is_late() {
             self.decl.take(directive)
@@ -75,7 +81,7 @@ impl SourceState {
 
     #[tactic(auto, unfolding(crate::specs::Judging::judged))]
     fn take_rows(&mut self, line: u32, rows: u128) -> Result<(), LineFault>
-        ensures { Gives (λ _. self.new) result (after_statement self.old line (statements.Rows rows)) }
+        ensures { Gives (λ _. self.new) result (after_source_line self.old line (source_lines.Rows rows)) }
     {
         if self.is_late() {
             return Err(LineFault::Kind(AsmKind::Late));
@@ -89,7 +95,7 @@ impl SourceState {
 
     #[tactic(auto, unfolding(crate::specs::Judging::judged))]
     fn take_start(&mut self, line: u32, label: Name) -> Result<(), LineFault>
-        ensures { Gives (λ _. self.new) result (after_statement self.old line (statements.Start label)) }
+        ensures { Gives (λ _. self.new) result (after_source_line self.old line (source_lines.Start label)) }
     {
         if self.start.is_some() {
             return Err(LineFault::Kind(AsmKind::StartTwice));
@@ -100,7 +106,7 @@ impl SourceState {
 
     #[tactic(auto, unfolding(crate::specs::Judging::judged))]
     fn take_pin(&mut self, line: u32, label: Name, row: u128, col: u128) -> Result<(), LineFault>
-        ensures { Gives (λ _. self.new) result (after_statement self.old line (statements.Pin label row col)) }
+        ensures { Gives (λ _. self.new) result (after_source_line self.old line (source_lines.Pin label row col)) }
     {
         if row > 31 || col > 15 {
             return Err(LineFault::Kind(AsmKind::PinRange));
@@ -114,8 +120,8 @@ impl SourceState {
     }
 
     #[tactic(auto, unfolding(crate::specs::Judging::judged))]
-    fn take_instruction(&mut self, line: u32, instruction: Instruction) -> Result<(), LineFault>
-        ensures { Gives (λ _. self.new) result (after_statement self.old line (statements.Instruct instruction)) }
+    fn take_instruction(&mut self, line: u32, instruction: WrittenInstr) -> Result<(), LineFault>
+        ensures { Gives (λ _. self.new) result (after_source_line self.old line (source_lines.Instruct instruction)) }
     {
         let Some(slices) = self.decl.slices() else {
             return Err(LineFault::Kind(AsmKind::Slices));
@@ -137,16 +143,16 @@ impl SourceState {
 
     /// Takes one line more, or says why it is refused. After a refusal nothing is known of the state.
     #[tactic(auto, unfolding(crate::specs::Judging::judged))]
-    pub fn take(&mut self, line: u32, statement: Statement) -> Result<(), LineFault>
-        ensures { Gives (λ _. self.new) result (after_statement self.old line statement) }
+    pub fn take(&mut self, line: u32, source_line: SourceLine) -> Result<(), LineFault>
+        ensures { Gives (λ _. self.new) result (after_source_line self.old line source_line) }
     {
-        match statement {
-            Statement::Nothing => Ok(()),
-            Statement::Declares(directive) => self.take_directive(line, directive),
-            Statement::Rows(rows) => self.take_rows(line, rows),
-            Statement::Start(label) => self.take_start(line, label),
-            Statement::Pin(label, row, col) => self.take_pin(line, label, row, col),
-            Statement::Instruct(instruction) => self.take_instruction(line, instruction),
+        match source_line {
+            SourceLine::Nothing => Ok(()),
+            SourceLine::Declares(directive) => self.take_directive(line, directive),
+            SourceLine::Rows(rows) => self.take_rows(line, rows),
+            SourceLine::Start(label) => self.take_start(line, label),
+            SourceLine::Pin(label, row, col) => self.take_pin(line, label, row, col),
+            SourceLine::Instruct(instruction) => self.take_instruction(line, instruction),
         }
     }
 }

@@ -230,7 +230,7 @@ pin A 3 15
 A: fn 3 1 R2 0x00FF STC FF1 wr=1 | iff B -\r
 B: SRA T | goto A";
 
-/// The numbers of the instruction at a label: line, function code, mask, flag functions.
+// The numbers of the instruction at a label: line, function code, mask, flag functions.
 fn numbers(rt: &impl Abort, program: &Program, label: u16) -> (u32, u8, u32, u8) {
     assert!(rt; label < program.len());
     let instr = program.instr(label);
@@ -275,7 +275,7 @@ fn a_program_is_read(rt: HostRuntime) -> Result<(), Fail> {
     Ok(())
 }
 
-/// A source of so many instructions and one more line.
+// A source of so many instructions and one more line.
 fn instructions(alloc: Global, count: u32, last: &str) -> Result<Vec<u8>, Fail> {
     let mut text = b"slices 1\nstart L0\n".to_vec(alloc)?;
     for number in 0..count {

@@ -5,11 +5,11 @@ ghost use Rattle.std.specs.List.{list_any};
 ghost use Rattle.micro_asm.specs.Earlier.{has_label};
 ghost use Rattle.micro_asm.specs.Source.{is_unknown, unknown_start, unknown_pin, unknown_target, first_line};
 
+use crate::accepted_lines::{NamedInstr, PinLine, StartLine};
 use crate::instr_table::InstrTable;
-use crate::lines::{InstrLine, PinLine, StartLine};
 use field_decl::Name;
 
-/// Whether a target is a label that no instruction has.
+// Whether a target is a label that no instruction has.
 fn is_unknown(instrs: &InstrTable, target: &Option<Name>) -> bool
     ensures { result ≡ is_unknown instrs.now target.now }
 {
@@ -48,8 +48,8 @@ fn has_unknown(instrs: &InstrTable, targets: &[Option<Name>]) -> bool
     targets.iter().any(|target| is_unknown(instrs, target))
 }
 
-/// The line of the first of these instructions that has an unknown target.
-fn first_unknown_target(table: &InstrTable, instrs: &[InstrLine]) -> Option<u32>
+// The line of the first of these instructions that has an unknown target.
+fn first_unknown_target(table: &InstrTable, instrs: &[NamedInstr]) -> Option<u32>
     ensures { result ≡ option_map (λ instr. instr.line) (find (λ instr. list_any (is_unknown table.now) instr.targets) instrs.now) }
 {
     for instr in instrs {

@@ -5,7 +5,7 @@ use Rattle.io_base.specs.Shelf.{ShelfState, GoesOn}
 use Rattle.flow_graph.specs.Graph.{Graph}
 use Rattle.micro_asm.specs.Source.{source_of}
 use Rattle.bus_script.specs.Script.{BusScript, script_of}
-use Rattle.saved_files.proofs.ComposingStates.{goes_on_both, tells_goes_on}
+use Rattle.saved_files.proofs.ComposingStates.{goes_on_both, tells_goes_on, same_file}
 use Rattle.replies.specs.FileStep.{HasFile, FileReply, NoFile, TooLong, CannotRead}
 use Rattle.replies.specs.SourceStep.{source_limit, HasSource, SourceReply}
 use Rattle.replies.specs.ScriptStep.{script_limit, ScriptReply}
@@ -15,10 +15,6 @@ use Rattle.bench_answers.proofs.ReadBack.{not_both, one_value, file_unread, file
 use Rattle.micro_cli.specs.Accepted.{Holds, IsAccepted}
 use Rattle.micro_cli.specs.Inputs.{InputsReply}
 use Rattle.micro_cli.specs.Making.{StartsFrom}
-
--- the file of a name, where no file changed
-pub file_at : (old new : ShelfState) (name : List ℕ) → new.file ≡ old.file → new.file name ≡ old.file name
-file_at old new name same = ap (λ (file : List ℕ → Option (List ℕ)). file name) same
 
 -- ---- accepted files
 
@@ -57,7 +53,7 @@ starts_accepted src script old new g bytes tells starts =
       source = starts.source.bytes;
       source_held = had_holds src source_limit old starts.mid starts.source.bytes tells starts.source.file;
       meant = starts.source.meant;
-      script_held = record { there = sym (file_at old starts.mid script starts.source.file.same) ∙ held.there; fits = held.fits };
+      script_held = record { there = sym (same_file old starts.mid script starts.source.file.same) ∙ held.there; fits = held.fits };
       says = starts.read.meant;
     }
 
@@ -116,7 +112,7 @@ inputs_unread src script old new g bytes said s text tells accepted (inr lacks) 
     let is = source_read src old lacks.mid accepted.source g lacks.g tells accepted.source_held accepted.meant lacks.source in
     let says = ap (λ (h : Graph). script_of h.decl.slices bytes) is ∙ accepted.says in
     let held : Holds lacks.mid.file script script_limit bytes = record {
-      there = file_at old lacks.mid script lacks.source.file.same ∙ accepted.script_held.there;
+      there = same_file old lacks.mid script lacks.source.file.same ∙ accepted.script_held.there;
       fits = accepted.script_held.fits;
     } in
     unread_by script old lacks.mid new s text lacks.source.file.goes_on

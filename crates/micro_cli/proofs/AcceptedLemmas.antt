@@ -8,9 +8,9 @@ use Rattle.io_base.specs.Loading.{ExplainsFault}
 use Rattle.io_base.specs.declared.loading.LoadFault.TheVariants as load_fault
 use Rattle.flow_graph.specs.Graph.{Graph}
 use Rattle.clause_base.specs.Refutation.{Refutes}
-use Rattle.clause_base.specs.declared.log.Line.{Line}
-use Rattle.clause_words.specs.Number.{var_count_of}
-use Rattle.clause_words.specs.Clauses.{clauses_of}
+use Rattle.clause_base.specs.declared.line.Line.{Line}
+use Rattle.placement_clauses.specs.Number.{var_count_of}
+use Rattle.placement_clauses.specs.Clauses.{clauses_of}
 use Rattle.ref_text.specs.Text.{refutation_text}
 use Rattle.clause_encode.specs.PlacementList.{list_of}
 use Rattle.refute_check.specs.Taken.{Explains, decided, check_file}

@@ -4,22 +4,22 @@ use Rattle.std.specs.Prelude.{slice_get, if◌then◌else◌, ◌==◌}
 use Rattle.std.specs.Option.{option_map_or}
 use Rattle.std.proofs.lemmas.List.{length-append}
 use Rattle.std.proofs.lemmas.Nat.{mul-le}
-use Rattle.mcu_jumps.specs.declared.codes.Kind.{Kind}
-use Rattle.mcu_jumps.specs.declared.codes.Kind.TheVariants as kind
+use Rattle.mcu_jumps.specs.declared.kinds.Kind.{Kind}
+use Rattle.mcu_jumps.specs.declared.kinds.Kind.TheVariants as kind
 use Rattle.mcu_jumps.specs.Landing.{outcomes_of}
 use Rattle.flow_graph.specs.declared.instructions.Instr.{Instr}
 use Rattle.flow_graph.specs.declared.programs.Program.{Program}
 use Rattle.flow_graph.specs.Valid.{IsInstr}
 use Rattle.flow_graph.specs.Graph.{graph_of}
-use Rattle.clause_words.specs.Upto.{upto, at_place, each_of}
-use Rattle.clause_words.specs.Number.{row_var, pairs_below, var_count_of}
-use Rattle.clause_words.specs.Shape.{same}
-use Rattle.clause_words.specs.FirstLabel.{first_real, first_label}
-use Rattle.clause_words.specs.Reaching.{keeps_half}
-use Rattle.clause_words.specs.Clauses.{col_clauses, outcome_clauses, target_clauses, test_clauses, flow_clauses, instr_clauses, trap_pair, trap_of, trap_outcome, trap_clauses, instr_traps, class_3, class_4, class_5, clauses_of}
-use Rattle.clause_words.proofs.UptoLemmas.{upto-none, upto-suc}
-use Rattle.clause_words.proofs.PinLemmas.{few-pins_of}
-use Rattle.clause_words.proofs.CountLemmas.{length-same, length-goto, length-enable, length-cols, length-test, length-trap_pair, length-class_3, length-clauses, few-outcomes, few-product}
+use Rattle.placement_clauses.specs.Upto.{upto, at_place, each_of}
+use Rattle.placement_clauses.specs.Number.{row_var, pairs_below, var_count_of}
+use Rattle.placement_clauses.specs.Shape.{same}
+use Rattle.placement_clauses.specs.FirstLabel.{first_real, first_label}
+use Rattle.placement_clauses.specs.Reaching.{keeps_half}
+use Rattle.placement_clauses.specs.Clauses.{col_clauses, outcome_clauses, target_clauses, test_clauses, flow_clauses, instr_clauses, trap_pair, trap_of, trap_outcome, trap_clauses, instr_traps, class_3, class_4, class_5, clauses_of}
+use Rattle.placement_clauses.proofs.UptoLemmas.{upto-none, upto-suc}
+use Rattle.placement_clauses.proofs.PinLemmas.{few-pins_of}
+use Rattle.placement_clauses.proofs.CountLemmas.{length-same, length-goto, length-enable, length-cols, length-test, length-trap_pair, length-class_3, length-clauses, few-outcomes, few-product}
 
 -- blocks that are not longer than m
 few-upto : {A : Type 0} (m n : ℕ) (f : ℕ → List A) → ((k : ℕ) → length (f k) ≤ m) → length (upto n f) ≤ n * m

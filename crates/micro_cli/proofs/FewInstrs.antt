@@ -17,16 +17,16 @@ use Rattle.field_decl.specs.Declaration.{Declaration}
 use Rattle.field_decl.specs.Results.{◌>>=◌, in_line, unless_refused}
 use Rattle.field_decl.specs.Words.{words_of}
 use Rattle.flow_graph.specs.Graph.{Graph}
-use Rattle.micro_asm.specs.declared.statement.Statement.{Statement}
-use Rattle.micro_asm.specs.declared.statement.Statement.TheVariants as statements
-use Rattle.micro_asm.specs.declared.statement.Instruction.{Instruction}
-use Rattle.micro_asm.specs.declared.lines.StartLine.{StartLine}
-use Rattle.micro_asm.specs.declared.lines.InstrLine.{InstrLine}
+use Rattle.micro_asm.specs.declared.source_line.SourceLine.{SourceLine}
+use Rattle.micro_asm.specs.declared.source_line.SourceLine.TheVariants as source_lines
+use Rattle.micro_asm.specs.declared.written_instruction.WrittenInstr.{WrittenInstr}
+use Rattle.micro_asm.specs.declared.accepted_lines.StartLine.{StartLine}
+use Rattle.micro_asm.specs.declared.accepted_lines.NamedInstr.{NamedInstr}
 use Rattle.micro_asm.specs.Earlier.{Line, Nothing, Declares, Rows, Starts, Pins, Instructs, Facts, facts_of, with_line, has_label, is_pinned}
 use Rattle.micro_asm.specs.Judging.{judged, instruction_judged, instruction_read, instructs, is_late}
 use Rattle.micro_asm.specs.Source.{line_read, lines_read, program_of, source_of, instr_of, started, unknown_line, unless_unknown, built, ok_graph}
-use Rattle.micro_asm.specs.Statements.{statement_form}
-use Rattle.clause_words.specs.Number.{var_count_of}
+use Rattle.micro_asm.specs.SourceLines.{source_line_form}
+use Rattle.placement_clauses.specs.Number.{var_count_of}
 
 -- ---- one line
 
@@ -43,45 +43,45 @@ few_unless : (facts : Facts) (refused : Option AsmKind) (directive : Directive) 
 few_unless facts None directive few = few
 few_unless facts (Some kind) directive few = tt
 
-few_more : (facts : Facts) (read : Result InstrLine AsmKind) → length facts.instrs < 128 → FewWith facts (read >>= instructs)
+few_more : (facts : Facts) (read : Result NamedInstr AsmKind) → length facts.instrs < 128 → FewWith facts (read >>= instructs)
 few_more facts (Ok instr) few = omega (arith, length-append facts.instrs (instr ∷ []))
 few_more facts (Err kind) few = tt
 
-few_room : (facts : Facts) (read : Result InstrLine AsmKind) (b : Bool) → nat_le 128 (length facts.instrs) ≡ b
+few_room : (facts : Facts) (read : Result NamedInstr AsmKind) (b : Bool) → nat_le 128 (length facts.instrs) ≡ b
     → FewWith facts (if b then Err kinds.TooMany else (read >>= instructs))
 few_room facts read true full = tt
 few_room facts read false room = few_more facts read (grind (arith, nat_tests, room))
 
-few_instruction : (facts : Facts) (number : ℕ) (instruction : Instruction) (slices : Option ℕ) → FewWith facts (instruction_judged facts number instruction slices)
+few_instruction : (facts : Facts) (number : ℕ) (instruction : WrittenInstr) (slices : Option ℕ) → FewWith facts (instruction_judged facts number instruction slices)
 few_instruction facts number instruction None = tt
 few_instruction facts number instruction (Some slices) =
     let read = instruction_read slices facts.declared number instruction in
     few_if facts (has_label facts.instrs instruction.label) kinds.LabelTwice (if nat_le 128 (length facts.instrs) then Err kinds.TooMany else (read >>= instructs))
     (few_room facts read (nat_le 128 (length facts.instrs)) refl)
 
-few_judged : (facts : Facts) (number : ℕ) (statement : Statement) → length facts.instrs ≤ 128 → FewWith facts (judged facts number statement)
+few_judged : (facts : Facts) (number : ℕ) (source_line : SourceLine) → length facts.instrs ≤ 128 → FewWith facts (judged facts number source_line)
 unfolding judged
-few_judged facts number statements.Nothing few = few
-few_judged facts number (statements.Declares directive) few =
+few_judged facts number source_lines.Nothing few = few
+few_judged facts number (source_lines.Declares directive) few =
     let refused = refusal facts.declared directive in
     few_if facts (is_late facts) kinds.Late (unless_refused refused (Declares directive)) (few_unless facts refused directive few)
-few_judged facts number (statements.Rows rows) few =
+few_judged facts number (source_lines.Rows rows) few =
     let wrong = is_some facts.rows || nat_lt rows 1 || nat_lt 32 rows in
     few_if facts (is_late facts) kinds.Late (if wrong then Err kinds.Rows else Ok (Rows rows)) (few_if facts wrong kinds.Rows (Ok (Rows rows)) few)
-few_judged facts number (statements.Start label) few =
+few_judged facts number (source_lines.Start label) few =
     few_if facts (is_some facts.start) kinds.StartTwice (Ok (Starts (record { line = number; label = label }))) few
-few_judged facts number (statements.Pin label row col) few =
+few_judged facts number (source_lines.Pin label row col) few =
     let pin : Result Line AsmKind = Ok (Pins (record { line = number; label = label; cell = record { row = row; col = col } })) in
     few_if facts (nat_lt 31 row || nat_lt 15 col) kinds.PinRange (if is_pinned facts.pins label then Err kinds.PinTwice else pin)
     (few_if facts (is_pinned facts.pins label) kinds.PinTwice pin few)
-few_judged facts number (statements.Instruct instruction) few = few_instruction facts number instruction facts.declared.slices
+few_judged facts number (source_lines.Instruct instruction) few = few_instruction facts number instruction facts.declared.slices
 
-few_formed : (facts : Facts) (number : ℕ) (formed : Result Statement AsmKind) → length facts.instrs ≤ 128 → FewWith facts (formed >>= judged facts number)
-few_formed facts number (Ok statement) few = few_judged facts number statement few
+few_formed : (facts : Facts) (number : ℕ) (formed : Result SourceLine AsmKind) → length facts.instrs ≤ 128 → FewWith facts (formed >>= judged facts number)
+few_formed facts number (Ok source_line) few = few_judged facts number source_line few
 few_formed facts number (Err kind) few = tt
 
-few_worded : (facts : Facts) (number : ℕ) (words : Result (List Word) AsmKind) → length facts.instrs ≤ 128 → FewWith facts (words >>= statement_form >>= judged facts number)
-few_worded facts number (Ok words) few = few_formed facts number (statement_form words) few
+few_worded : (facts : Facts) (number : ℕ) (words : Result (List Word) AsmKind) → length facts.instrs ≤ 128 → FewWith facts (words >>= source_line_form >>= judged facts number)
+few_worded facts number (Ok words) few = few_formed facts number (source_line_form words) few
 few_worded facts number (Err kind) few = tt
 
 few_line : (earlier : List Line) (line : List ℕ) → length (facts_of earlier).instrs ≤ 128 → FewWith (facts_of earlier) (line_read earlier line)
@@ -107,7 +107,7 @@ FewRead (Err fault) = Unit {0}
 few_next : (earlier : List Line) (number : ℕ) (rest : List (List ℕ)) (read : Result Line AsmKind)
     → ((line : Line) → length (facts_of (earlier ++ line ∷ [])).instrs ≤ 128 → FewRead (lines_read (earlier ++ line ∷ []) rest))
     → FewWith (facts_of earlier) read → FewRead (in_line number read >>= λ line. lines_read (earlier ++ line ∷ []) rest)
-few_next earlier number rest (Ok line) more few = more line (subst (λ (instrs : List InstrLine). length instrs ≤ 128) (sym (instrs_push earlier line)) few)
+few_next earlier number rest (Ok line) more few = more line (subst (λ (instrs : List NamedInstr). length instrs ≤ 128) (sym (instrs_push earlier line)) few)
 few_next earlier number rest (Err kind) more few = tt
 
 few_lines : (rest : List (List ℕ)) (earlier : List Line) → length (facts_of earlier).instrs ≤ 128 → FewRead (lines_read earlier rest)

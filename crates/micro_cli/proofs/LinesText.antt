@@ -1,7 +1,7 @@
 -- The text of one line more.
 use Rattle.std.proofs.Common.{◌≡◌, ℕ, zero, suc, ◌+◌, List, [], ◌∷◌, ◌++◌, take, Some, refl, sym, ap, ◌∙◌, append_assoc, append-nil, arith}
 use Rattle.std.specs.Prelude.{slice_get}
-use Rattle.clause_base.specs.declared.log.Line.{Line}
+use Rattle.clause_base.specs.declared.line.Line.{Line}
 use Rattle.ref_text.specs.Text.{line_text, lines_text}
 
 pub lines_more : (number : ℕ) (lines : List Line) (i : ℕ) (line : Line) → slice_get lines i ≡ Some line

@@ -1,5 +1,5 @@
 -- What each outcome of `make` promises where a placement was found, and of every accepted source.
-use Rattle.std.proofs.Common.{ℕ, zero, suc, ◌≡◌, ◌≢◌, ◌≤◌, ◌<◌, ◌+◌, ◌⊎◌, inl, inr, List, [], ◌∷◌, ◌++◌, length, map, Option, None, Some, Ok, slice_get, IsTrue, sym, ap, ◌∙◌, subst, arith}
+use Rattle.std.proofs.Common.{ℕ, zero, suc, ◌≡◌, ◌≢◌, ◌≤◌, ◌<◌, ◌+◌, ◌⊎◌, inl, inr, List, [], ◌∷◌, ◌++◌, length, map, Option, Some, Ok, slice_get, IsTrue, sym, ap, ◌∙◌, subst, arith}
 use Rattle.std.proofs.lemmas.List.{length-map}
 use Rattle.std.specs.Option.{option_map}
 use Rattle.std.proofs.lemmas.Option.{slice_get-map}
@@ -19,8 +19,9 @@ use Rattle.prom_split.specs.Images.{image_count}
 use Rattle.saved_files.specs.SavedFile.{SavedFile}
 use Rattle.saved_files.specs.FilesOfAnswers.{image_files, placed_files}
 use Rattle.saved_files.specs.Saving.{IsSaved}
+use Rattle.saved_files.proofs.FileNameLemmas.{name_at}
 use Rattle.saved_files.proofs.OneFileLemmas.{told_goes_on}
-use Rattle.saved_files.proofs.ComposingStates.{goes_on_both, tells_goes_on}
+use Rattle.saved_files.proofs.ComposingStates.{goes_on_both, tells_goes_on, same_file}
 use Rattle.saved_files.proofs.StandingFiles.{map_stands, layout_stands, image_stands}
 use Rattle.replies.specs.Ending.{Ends}
 use Rattle.replies.specs.declared.status.Status.{Status}
@@ -31,8 +32,8 @@ use Rattle.bench_answers.specs.Placed.{AreSaved}
 use Rattle.micro_cli.specs.Accepted.{IsAccepted}
 use Rattle.micro_cli.specs.After.{AfterReply}
 use Rattle.micro_cli.specs.Making.{MakeAnswer}
-use Rattle.micro_cli.specs.Headline.{IsNoFileName, Writes, SavesPlacement, IsMade, RepliesAs, IsFaultless, IsDecision}
-use Rattle.micro_cli.proofs.AcceptedInputs.{RefusesOrFails, inputs_status, inputs_unread, starts_accepted, starts_go_on, starts_same, file_at, accepted_once}
+use Rattle.micro_cli.specs.Headline.{IsNoFileName, Writes, SavesPlacement, IsMade, RepliesAs, NoFaultCounted, IsDecision}
+use Rattle.micro_cli.proofs.AcceptedInputs.{RefusesOrFails, inputs_status, inputs_unread, starts_accepted, starts_go_on, starts_same, accepted_once}
 use Rattle.micro_cli.proofs.MakeOutcomes.{Start, Found, Outcome, lacks_inputs, lacks_memory, lacks_file, found, refuted, undecided, outcome_of, Wrote, ends_wrote}
 use Rattle.micro_cli.proofs.AcceptedLemmas.{accepted}
 use Rattle.micro_cli.proofs.RunAfter.{RunsOrFails, back_is_run}
@@ -60,9 +61,11 @@ abbrev IsInput : Status → Type 0
 IsInput status.Input = Unit {0}
 IsInput s = ⊥
 
-abbrev IsRefusedWords : Status → Type 0
-IsRefusedWords status.Words = Unit {0}
-IsRefusedWords s = ⊥
+-- after either no file was changed
+abbrev ChangesNothing : Status → Type 0
+ChangesNothing status.Words = Unit {0}
+ChangesNothing status.Input = Unit {0}
+ChangesNothing s = ⊥
 
 -- ---- the placement
 
@@ -102,10 +105,6 @@ found_saved src script out clocks old new s text told f =
     text_at : (number : ℕ) (image : Image) → slice_get f.placed.images number ≡ Some image → slice_get (map image_text f.placed.images) number ≡ Some (image_text image)
     text_at number image at = slice_get-map image_text f.placed.images number ∙ ap (option_map image_text) at
 
-abbrev name_at : Option SavedFile → List ℕ
-name_at None = []
-name_at (Some x) = x.name
-
 -- the files of the images have the names of their numbers
 no_image_of : (out name : List ℕ) (count number : ℕ) (images : List (List ℕ)) (i : ℕ) (x : SavedFile) → IsNoFileName out count name → number + length images ≤ count
     → slice_get (image_files out number images) i ≡ Some x → x.name ≢ name
@@ -123,9 +122,9 @@ none_of_files out name map_bytes layout count images (suc (suc i)) x other room 
 found_others : (src script out : List ℕ) (clocks : ℕ) (old new : ShelfState) (s : Status) (text : List ℕ) → (f : Found src script out clocks old new s text)
     → (name : List ℕ) → IsNoFileName out (image_count f.start.g.decl) name → new.file name ≡ old.file name
 found_others src script out clocks old new s text f name other =
-    file_at f.all.after new name f.all.same
+    same_file f.all.after new name f.all.same
     ∙ f.all.saved.others name none
-    ∙ file_at old f.start.mid name (starts_same src script old f.start.mid f.start.g f.start.bytes f.start.starts)
+    ∙ same_file old f.start.mid name (starts_same src script old f.start.mid f.start.g f.start.bytes f.start.starts)
   where
     none : (i : ℕ) (x : SavedFile) → i < length f.files → slice_get f.files i ≡ Some x → x.name ≢ name
     none i x within at =
@@ -250,51 +249,39 @@ input_read_back src script out clocks conflicts old new before after s g bytes s
 
 -- ---- what stays
 
--- inputs that are refused change no file
-pub input_changes_nothing : SavedIsReadBack → (src script out : List ℕ) (clocks conflicts : ℕ) (old new : ShelfState) (s : Status) (text : List ℕ) → IsTold old → s ≡ status.Input
+-- words and input that are refused change no file
+changes_nothing : SavedIsReadBack → (src script out : List ℕ) (clocks conflicts : ℕ) (old new : ShelfState) (s : Status) (text : List ℕ) → IsTold old → ChangesNothing s
     → MakeAnswer src script out clocks conflicts old new s text → new.file ≡ old.file
-input_changes_nothing law src script out clocks conflicts old new s text told input answer = go (outcome_of src script out clocks conflicts old new s text answer)
+changes_nothing law src script out clocks conflicts old new s text told nothing answer = go (outcome_of src script out clocks conflicts old new s text answer)
   where
     back : (f : Found src script out clocks old new s text) → CannotReadBack f.all.after new s text ⊎ IsPlacedRun f.start.g.decl f.placed.words f.start.starts.read.said clocks s text → new.file ≡ old.file
-    back f (inl unread) = absurd (subst IsInput (sym input ∙ unread.status_is) tt)
-    back f (inr run) = absurd (subst IsInput (sym input ∙ run.status_is) tt)
+    back f (inl unread) = absurd (subst ChangesNothing unread.status_is nothing)
+    back f (inr run) = absurd (subst ChangesNothing run.status_is nothing)
 
     go : Outcome src script out clocks conflicts old new s text → new.file ≡ old.file
     go (lacks_inputs lacks) = lacks.same
-    go (lacks_memory wants) = absurd (subst IsInput (sym input ∙ wants) tt)
-    go (lacks_file lacks) = absurd (subst IsInput (sym input ∙ lacks.status_is) tt)
+    go (lacks_memory wants) = absurd (subst ChangesNothing wants nothing)
+    go (lacks_file lacks) = absurd (subst ChangesNothing lacks.status_is nothing)
     go (found f) = back f (found_back law src script out clocks old new s text told f)
-    go (refuted r) = absurd (subst IsInput (sym input ∙ r.status_is) tt)
-    go (undecided u) = absurd (subst IsInput (sym input ∙ u.status_is) tt)
-
--- words that are a command do not end as none
-words_change_nothing : SavedIsReadBack → (src script out : List ℕ) (clocks conflicts : ℕ) (old new : ShelfState) (s : Status) (text : List ℕ) → IsTold old → s ≡ status.Words
-    → MakeAnswer src script out clocks conflicts old new s text → new.file ≡ old.file
-words_change_nothing law src script out clocks conflicts old new s text told is answer = go (outcome_of src script out clocks conflicts old new s text answer)
-  where
-    back : (f : Found src script out clocks old new s text) → CannotReadBack f.all.after new s text ⊎ IsPlacedRun f.start.g.decl f.placed.words f.start.starts.read.said clocks s text → new.file ≡ old.file
-    back f (inl unread) = absurd (subst IsRefusedWords (sym is ∙ unread.status_is) tt)
-    back f (inr run) = absurd (subst IsRefusedWords (sym is ∙ run.status_is) tt)
-
-    go : Outcome src script out clocks conflicts old new s text → new.file ≡ old.file
-    go (lacks_inputs lacks) = lacks.same
-    go (lacks_memory wants) = absurd (subst IsRefusedWords (sym is ∙ wants) tt)
-    go (lacks_file lacks) = absurd (subst IsRefusedWords (sym is ∙ lacks.status_is) tt)
-    go (found f) = back f (found_back law src script out clocks old new s text told f)
-    go (refuted r) = absurd (subst IsRefusedWords (sym is ∙ r.status_is) tt)
-    go (undecided u) = absurd (subst IsRefusedWords (sym is ∙ u.status_is) tt)
+    go (refuted r) = absurd (subst ChangesNothing r.status_is nothing)
+    go (undecided u) = absurd (subst ChangesNothing u.status_is nothing)
 
 pub nothing_changed : SavedIsReadBack → (src script out : List ℕ) (clocks conflicts : ℕ) (old new : ShelfState) (before after : SinkState) (s : Status) → IsTold old → (s ≡ status.Words) ⊎ (s ≡ status.Input)
     → Ends (MakeAnswer src script out clocks conflicts old new) before after s → new.file ≡ old.file
-nothing_changed law src script out clocks conflicts old new before after s told (inl is) (inl ended) = words_change_nothing law src script out clocks conflicts old new s ended.0 told is ended.1
-nothing_changed law src script out clocks conflicts old new before after s told (inr is) (inl ended) = input_changes_nothing law src script out clocks conflicts old new s ended.0 told is ended.1
-nothing_changed law src script out clocks conflicts old new before after s told (inl is) (inr failed) = absurd (subst IsRefusedWords (sym is ∙ failed.0) tt)
-nothing_changed law src script out clocks conflicts old new before after s told (inr is) (inr failed) = absurd (subst IsInput (sym is ∙ failed.0) tt)
+nothing_changed law src script out clocks conflicts old new before after s told is ends = go ends
+  where
+    of_either : (s ≡ status.Words) ⊎ (s ≡ status.Input) → ChangesNothing s
+    of_either (inl words) = subst ChangesNothing (sym words) tt
+    of_either (inr input) = subst ChangesNothing (sym input) tt
+
+    go : Ends (MakeAnswer src script out clocks conflicts old new) before after s → new.file ≡ old.file
+    go (inl ended) = changes_nothing law src script out clocks conflicts old new s ended.0 told (of_either is) ended.1
+    go (inr failed) = absurd (subst ChangesNothing failed.0 (of_either is))
 
 -- ---- every accepted source
 
 pub accepted_decides : SavedIsReadBack → (src script out : List ℕ) (clocks conflicts : ℕ) (old new : ShelfState) (before after : SinkState) (s : Status) (g : Graph) (bytes : List ℕ) (said : BusScript) → IsTold old
-    → IsAccepted src script old.file g bytes said → IsFaultless old new before after → Ends (MakeAnswer src script out clocks conflicts old new) before after s → IsDecision s
+    → IsAccepted src script old.file g bytes said → NoFaultCounted old new before after → Ends (MakeAnswer src script out clocks conflicts old new) before after s → IsDecision s
 accepted_decides law src script out clocks conflicts old new before after s g bytes said told accepted faultless (inr failed) = absurd (faultless.sink failed.1)
 accepted_decides law src script out clocks conflicts old new before after s g bytes said told accepted faultless (inl ended) = go (outcome_of src script out clocks conflicts old new s ended.0 ended.1)
   where

@@ -5,7 +5,7 @@ use Rattle.io_base.specs.Shelf.{ShelfState}
 use Rattle.io_base.specs.Sink.{SinkState}
 use Rattle.mcu_jumps.specs.Position.{Position}
 use Rattle.flow_graph.specs.Graph.{Graph}
-use Rattle.clause_words.specs.Clauses.{clauses_of}
+use Rattle.placement_clauses.specs.Clauses.{clauses_of}
 use Rattle.ref_text.specs.Text.{refutation_text, part_text}
 use Rattle.saved_files.specs.SavedFile.{SavedFile}
 use Rattle.saved_files.specs.FilesOfAnswers.{refuted_files, undecided_files}

@@ -10,7 +10,7 @@ use Rattle.std.proofs.lemmas.Bool.{cases_lt}
 use Rattle.std.proofs.lemmas.List.{take-append-drop}
 use Rattle.std.proofs.lemmas.Slice.Eq.{bytes_eq-Decides}
 use Rattle.std.proofs.lemmas.Str.Parse.{parse_digits, numerals_by_value, tells_all_ascii_digits}
-use Rattle.micro_cli.specs.Command.{number_up_to, setting}
+use Rattle.micro_cli.specs.Command.{number_up_to, number_after}
 
 -- digits one by one
 all_digits : (ds : List ℕ) → all_ascii_digits ds ≡ list_all is_ascii_digit ds
@@ -35,17 +35,17 @@ drop_key [] rest = refl
 drop_key (k ∷ key) rest = drop_key key rest
 
 -- a word that is the key and more
-pub setting_there : (key : List ℕ) (limit : ℕ) (word rest : List ℕ) → word ≡ key ++ rest → setting key limit word ≡ number_up_to limit rest
-setting_there key limit word rest e =
+pub number_after_there : (key : List ℕ) (limit : ℕ) (word rest : List ℕ) → word ≡ key ++ rest → number_after key limit word ≡ number_up_to limit rest
+number_after_there key limit word rest e =
     let same : bytes_eq key (take (length key) word) ≡ true = (bytes_eq-Decides key (take (length key) word)).1 (sym (ap (take (length key)) e ∙ take-append_seam key rest)) in
     let left : drop (length key) word ≡ rest = ap (drop (length key)) e ∙ drop_key key rest in
     rw (same, left) refl
 
 -- a word that does not begin with the key
-pub setting_absent : (key : List ℕ) (limit : ℕ) (word : List ℕ) → ((rest : List ℕ) → word ≢ key ++ rest) → setting key limit word ≡ None
-setting_absent key limit word lacks = go (bytes_eq key (take (length key) word)) refl
+pub number_after_absent : (key : List ℕ) (limit : ℕ) (word : List ℕ) → ((rest : List ℕ) → word ≢ key ++ rest) → number_after key limit word ≡ None
+number_after_absent key limit word lacks = go (bytes_eq key (take (length key) word)) refl
   where
-    go : (b : Bool) → bytes_eq key (take (length key) word) ≡ b → setting key limit word ≡ None
+    go : (b : Bool) → bytes_eq key (take (length key) word) ≡ b → number_after key limit word ≡ None
     go true e =
         let begins : key ≡ take (length key) word = (bytes_eq-Decides key (take (length key) word)).0 e in
         absurd (lacks (drop (length key) word) (sym (take-append-drop (length key) word) ∙ ap (λ front. front ++ drop (length key) word) (sym begins)))

@@ -19,7 +19,7 @@ use Rattle.replies.specs.FileStep.{FileReply, NoFile, TooLong, CannotRead}
 use Rattle.replies.specs.declared.status.Status.{Status}
 use Rattle.replies.specs.declared.status.Status.TheVariants as status
 use Rattle.bench_answers.specs.ReadingBack.{placed_line, ShiftOrRun, WordsBack, BackReply}
-use Rattle.micro_cli.specs.After.{IsRefused, Declares, ImagesNothing, AreFirst, LacksOne, HoldsWords, AfterReply}
+use Rattle.micro_cli.specs.After.{IsRefused, LayoutDeclares, ImagesNothing, AreFirst, LacksOne, HoldsWords, AfterReply}
 
 -- a refused input, as the run of these files tells it
 pub record IsRefusedRun (files : List ℕ → Option (List ℕ)) (out script bytes : List ℕ) (clocks : ℕ) (s : Status) (text : List ℕ) : Type 0 where
@@ -87,7 +87,7 @@ layout_after out script bytes clocks old new s text tells (inr refused) =
       }));
     })
 
-declares : (out : List ℕ) (decl : Declaration) (old new : ShelfState) → IsTrue old.tells → HasLayout out old new decl → Declares old.file out decl
+declares : (out : List ℕ) (decl : Declaration) (old new : ShelfState) → IsTrue old.tells → HasLayout out old new decl → LayoutDeclares old.file out decl
 declares out decl old new tells has = record {
   bytes = has.bytes;
   held = record { there = has.file.told tells; fits = has.file.fits };
@@ -182,7 +182,7 @@ holds_words out decl words old new tells joined = record {
 
 -- what is replied to words and a script is a run, whose text follows the line `placed`
 script_after : (files : List ℕ → Option (List ℕ)) (out script bytes : List ℕ) (clocks : ℕ) (decl : Declaration) (words : List ℕ) (s : Status) (text : List ℕ)
-    → Declares files out decl → HoldsWords files out decl words → WordsBack out script bytes clocks decl words s text → RunsOrFails files out script bytes clocks s text
+    → LayoutDeclares files out decl → HoldsWords files out decl words → WordsBack out script bytes clocks decl words s text → RunsOrFails files out script bytes clocks s text
 script_after files out script bytes clocks decl words s text declared holds (inl refused) =
     inl (record {
       status_is = refused.reply.status_is;

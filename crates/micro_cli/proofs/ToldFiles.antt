@@ -7,9 +7,9 @@ use Rattle.mcu_jumps.specs.Position.{Position}
 use Rattle.flow_graph.specs.Graph.{Graph}
 use Rattle.clause_base.specs.Refutation.{Refutes}
 use Rattle.clause_base.specs.Spent.{Spent}
-use Rattle.clause_base.specs.declared.log.Line.{Line}
+use Rattle.clause_base.specs.declared.line.Line.{Line}
 use Rattle.clause_base.specs.declared.clash.Clash.{Clash}
-use Rattle.clause_words.specs.Clauses.{clauses_of}
+use Rattle.placement_clauses.specs.Clauses.{clauses_of}
 use Rattle.clause_encode.specs.PlacementList.{list_of}
 use Rattle.placer.specs.Placing.{HasNoPlacement}
 use Rattle.ref_text.specs.Text.{refutation_text, part_text}

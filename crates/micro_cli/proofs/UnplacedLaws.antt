@@ -4,13 +4,13 @@ use Rattle.io_base.specs.Causes.{Rose}
 use Rattle.io_base.specs.Shelf.{ShelfState, GoesOn, IsTold}
 use Rattle.io_base.specs.Sink.{SinkState}
 use Rattle.flow_graph.specs.Graph.{Graph}
-use Rattle.clause_words.specs.Clauses.{clauses_of}
+use Rattle.placement_clauses.specs.Clauses.{clauses_of}
 use Rattle.ref_text.specs.Text.{refutation_text, part_text}
 use Rattle.saved_files.specs.SavedFile.{SavedFile}
 use Rattle.saved_files.specs.FileNames.{refutation_name, undecided_name}
 use Rattle.saved_files.specs.FilesOfAnswers.{file_of, refuted_files, undecided_files}
 use Rattle.saved_files.specs.Saving.{IsSaved}
-use Rattle.saved_files.proofs.ComposingStates.{tells_goes_on}
+use Rattle.saved_files.proofs.ComposingStates.{tells_goes_on, same_file}
 use Rattle.replies.specs.Ending.{Ends}
 use Rattle.replies.specs.declared.status.Status.{Status}
 use Rattle.replies.specs.declared.status.Status.TheVariants as status
@@ -24,7 +24,7 @@ use Rattle.micro_cli.specs.CheckerText.{TellsAnswer}
 use Rattle.micro_cli.specs.Checking.{RefutationReply, CheckReply}
 use Rattle.micro_cli.specs.Making.{MakeAnswer}
 use Rattle.micro_cli.specs.Headline.{Writes, IsRefuted, IsUndecided}
-use Rattle.micro_cli.proofs.AcceptedInputs.{RefusesOrFails, inputs_status, source_unread, source_read, starts_accepted, starts_same, file_at}
+use Rattle.micro_cli.proofs.AcceptedInputs.{RefusesOrFails, inputs_status, source_unread, source_read, starts_accepted, starts_same}
 use Rattle.micro_cli.proofs.MakeOutcomes.{Start, Found, Refuted, Undecided, Outcome, lacks_inputs, lacks_memory, lacks_file, found, refuted, undecided, outcome_of, Wrote, ends_wrote}
 use Rattle.micro_cli.proofs.FewInstrs.{few_instrs, short_refutation}
 use Rattle.micro_cli.proofs.AcceptedLemmas.{accepted}
@@ -55,7 +55,7 @@ started_file : (src script : List ℕ) (old new : ShelfState) (start : Start src
     → (other : List ℕ) → other ≢ name → new.file other ≡ old.file other
 started_file src script old new start name bytes saved other differs =
     only_file name bytes start.mid new saved other differs
-    ∙ file_at old start.mid other (starts_same src script old start.mid start.g start.bytes start.starts)
+    ∙ same_file old start.mid other (starts_same src script old start.mid start.g start.bytes start.starts)
 
 -- ---- refutations
 
@@ -121,13 +121,13 @@ refuted_checks src script out conflicts old new start end before after t text r 
   where
     held : Holds start.file src source_limit r.accepted.source
     held = record {
-      there = file_at new start src same ∙ r.others src differs ∙ r.accepted.source_held.there;
+      there = same_file new start src same ∙ r.others src differs ∙ r.accepted.source_held.there;
       fits = r.accepted.source_held.fits;
     }
 
     checked_reply : (mid : ShelfState) → GoesOn start mid → mid.file ≡ start.file → RefutationReply (refutation_name out) r.g mid end t text → (t ≡ status.Done) ⊎ Rose start.faults end.faults
     checked_reply mid goes_on kept told = by (accepted (refutation_name out) r.g r.lines mid end t text (tells_goes_on start mid goes_on tells)
-        (file_at start mid (refutation_name out) kept ∙ file_at new start (refutation_name out) same ∙ r.saved) (omega (arith, r.short budget)) r.refutes
+        (same_file start mid (refutation_name out) kept ∙ same_file new start (refutation_name out) same ∙ r.saved) (omega (arith, r.short budget)) r.refutes
         (omega (arith, few_instrs r.accepted.source r.g r.accepted.meant)) r.numbered told)
       where
         by : TellsAnswer (checked.Refutes (length r.lines)) t text ⊎ CannotRead (refutation_name out) mid end t text → (t ≡ status.Done) ⊎ Rose start.faults end.faults

@@ -1,5 +1,5 @@
--- What `run OUT SCRIPT clocks=N` replies over files as they stand, where these are the script's bytes whatever stands under its
--- name (this project's own choice).
+-- What `run OUT SCRIPT clocks=N` replies over files as they stand, where these are the script's bytes whatever stands
+-- under its name (this project's own choice).
 use Rattle.std.specs.Prelude.{ℕ, ◌≡◌, ◌<◌, ◌⊎◌, List, length, Option, None, Some, slice_get, Ok, Err, codes}
 use Rattle.bpnf.specs.Image.{Image}
 use Rattle.bpnf.specs.FirstFault.{Reads}
@@ -28,7 +28,7 @@ IsRefused (Some bytes) name limit s text = (limit < length bytes) × Refuses nam
 -- ---- the layout
 
 -- the layout declares this
-pub record Declares (files : List ℕ → Option (List ℕ)) (out : List ℕ) (decl : Declaration) : Type 0 where
+pub record LayoutDeclares (files : List ℕ → Option (List ℕ)) (out : List ℕ) (decl : Declaration) : Type 0 where
   pub bytes : List ℕ
   pub held : Holds files (layout_name out) layout_limit bytes
   pub meant : layout_of bytes ≡ Ok decl
@@ -98,4 +98,4 @@ abbrev pub AfterReply : (List ℕ → Option (List ℕ)) → List ℕ → List �
 AfterReply files out script bytes clocks s text =
     IsRefused (files (layout_name out)) (layout_name out) layout_limit s text
     ⊎ DeclaresNothing files out s text
-    ⊎ ((decl : Declaration) × Declares files out decl × UnderLayout files out script bytes clocks decl s text)
+    ⊎ ((decl : Declaration) × LayoutDeclares files out decl × UnderLayout files out script bytes clocks decl s text)

@@ -1,7 +1,8 @@
--- How the checker's answers are told (this project's own choice). Each text is one line.
+-- How the checker's answers are told (this project's own choice). Each text is one line. The reasons that it names are
+-- those of `Why` in the crate `ref_text`; `check` alone tells them, so their names are here.
 use Rattle.std.specs.Prelude.{ℕ, ◌≡◌, List, ◌++◌, codes, decimal}
-use Rattle.ref_text.specs.declared.events.Why.{Why}
-use Rattle.ref_text.specs.declared.events.Why.TheVariants.{Text, After, Number, Literal, Hint, NotUnit, NotFalse}
+use Rattle.ref_text.specs.declared.why.Why.{Why}
+use Rattle.ref_text.specs.declared.why.Why.TheVariants.{Text, After, Number, Literal, Hint, NotUnit, NotFalse}
 use Rattle.refute_check.specs.declared.checked.Checked.{Checked}
 use Rattle.refute_check.specs.declared.checked.Checked.TheVariants.{Refutes, Rejected, Derived}
 use Rattle.replies.specs.declared.status.Status.{Status}

@@ -1,4 +1,5 @@
--- What `check` replies: the checker's answer for a refutation of a source's placement clauses (this project's own choice).
+-- What `check` replies: the checker's answer for a refutation of a source's placement clauses (this project's own
+-- choice).
 use Rattle.std.specs.Prelude.{ℕ, ◌≡◌, ◌-◌, ◌<◌, ◌^◌, ◌⊎◌, List, IsTrue, Ok, Err, codes}
 use Rattle.io_base.specs.Shelf.{ShelfState, GoesOn}
 use Rattle.io_base.specs.Loading.{TookMore}
@@ -20,8 +21,8 @@ use Rattle.micro_cli.specs.CheckerText.{TellsAnswer}
 abbrev pub refutation_limit : ℕ
 refutation_limit = 2 ^ 43
 
--- the checker's answer is told: it is decided by the bytes that were taken, and where the shelf tells its files, by the file;
--- where it is that the file is a refutation, the program has no legal placement
+-- the checker's answer is told: it is decided by the bytes that were taken, and where the shelf tells its files, by
+-- the file; where it is that the file is a refutation, the program has no legal placement
 pub record IsAnswer (name : List ℕ) (g : Graph) (old new : ShelfState) (s : Status) (text : List ℕ) : Type 0 where
   pub answer : Checked
   pub reply : TellsAnswer answer s text
@@ -36,9 +37,9 @@ pub record IsTooLong (name : List ℕ) (g : Graph) (old new : ShelfState) (s : S
   pub of_bytes : IsOfBytes refutation_limit (list_of g) old new (Err fault.TooLong)
   pub told : IsTrue old.tells → Explains (old.file name) refutation_limit (list_of g) (Err fault.TooLong)
 
--- the reply to a program and the file of this name: the checker's answer, or why there is none. It is that the name is absent
--- where a read told so; and where more bytes than the limit were taken, that the file is too long, or an answer that the bytes
--- within the limit decide.
+-- the reply to a program and the file of this name: the checker's answer, or why there is none. It is that the name
+-- is absent where a read told so; and where more bytes than the limit were taken, that the file is too long, or an
+-- answer that the bytes within the limit decide.
 pub record RefutationReply (name : List ℕ) (g : Graph) (old new : ShelfState) (s : Status) (text : List ℕ) : Type 0 where
   pub reason :
       IsAnswer name g old new s text

@@ -13,7 +13,8 @@ pub data Command : Type 0 where
   flow : List ℕ → List ℕ → ℕ → Command
   -- `run OUT SCRIPT clocks=N`: the trace of saved images on the bench
   run : List ℕ → List ℕ → ℕ → Command
-  -- `make SRC SCRIPT OUT clocks=N conflicts=B`: a placement saved as images, read back and run, or a refutation, or a budget spent
+  -- `make SRC SCRIPT OUT clocks=N conflicts=B`: a placement saved as images, read back and run, or a refutation, or a
+  -- budget spent
   make : List ℕ → List ℕ → List ℕ → ℕ → ℕ → Command
   -- `check SRC REF`: whether a file is a refutation of a source
   check : List ℕ → List ℕ → Command
@@ -35,12 +36,12 @@ abbrev pub number_up_to : ℕ → List ℕ → Option ℕ
 number_up_to limit digits = if is_number digits && nat_le (digits_value 10 digits) limit then Some (digits_value 10 digits) else None
 
 -- the number after this key in a word
-abbrev pub setting : List ℕ → ℕ → List ℕ → Option ℕ
-setting key limit word = if bytes_eq key (take (length key) word) then number_up_to limit (drop (length key) word) else None
+abbrev pub number_after : List ℕ → ℕ → List ℕ → Option ℕ
+number_after key limit word = if bytes_eq key (take (length key) word) then number_up_to limit (drop (length key) word) else None
 
 -- the clocks of a word `clocks=N`, up to 65,536
 abbrev pub clocks_in : List ℕ → Option ℕ
-clocks_in word = setting (codes "clocks=") 65536 word
+clocks_in word = number_after (codes "clocks=") 65536 word
 
 -- the command that prints a map
 abbrev pub map_command : List ℕ → List ℕ → Option Command
@@ -60,7 +61,7 @@ trace_by word file script (Some clocks) = if is_file_name file && is_file_name s
 
 -- the conflicts of a word `conflicts=B`, up to 1,000,000
 abbrev pub conflicts_in : List ℕ → Option ℕ
-conflicts_in word = setting (codes "conflicts=") 1000000 word
+conflicts_in word = number_after (codes "conflicts=") 1000000 word
 
 -- the names of a source, a script and an output
 abbrev pub are_file_names : List ℕ → List ℕ → List ℕ → Bool

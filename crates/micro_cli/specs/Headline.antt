@@ -1,6 +1,7 @@
--- What `make` promises of its answers, by the words, the files before and after, the bytes written and the status. The promises
--- are this project's own. Each speaks of a shelf that tells its files, and where it speaks of what was written, of a sink that
--- tells its bytes. A budget that it asks to be at most 1,000,000 is one that the command line takes.
+-- What `make` promises of its answers, by the words, the files before and after, the bytes written and the status.
+-- The promises are this project's own. Each speaks of a shelf that tells its files, and where it speaks of what was
+-- written, of a sink that tells its bytes. A budget that it asks to be at most 1,000,000 is one that the command line
+-- takes.
 use Rattle.std.specs.Prelude.{ℕ, ◌≡◌, ◌≢◌, ◌≤◌, ◌<◌, ◌+◌, ◌^◌, ◌⊎◌, ◌++◌, IsTrue, List, [], length, Option, Some, slice_get}
 use Rattle.io_base.specs.Causes.{Rose}
 use Rattle.io_base.specs.Shelf.{ShelfState, IsTold}
@@ -10,7 +11,7 @@ use Rattle.bpnf.specs.Image.{Image}
 use Rattle.bpnf.specs.Canonical.{image_text}
 use Rattle.clause_base.specs.Refutation.{Refutes}
 use Rattle.clause_base.specs.Spent.{Spent}
-use Rattle.clause_base.specs.declared.log.Line.{Line}
+use Rattle.clause_base.specs.declared.line.Line.{Line}
 use Rattle.clause_base.specs.declared.clash.Clash.{Clash}
 use Rattle.field_decl.specs.LayoutText.{layout_text}
 use Rattle.flow_graph.specs.Graph.{Graph}
@@ -23,7 +24,7 @@ use Rattle.prom_split.specs.Microword.{AreWords}
 use Rattle.prom_split.specs.Images.{AreImages, image_count}
 use Rattle.bus_bench.specs.Chip.{chip_text, chip_trace}
 use Rattle.bus_bench.specs.Matches.{Matches}
-use Rattle.clause_words.specs.Clauses.{clauses_of}
+use Rattle.placement_clauses.specs.Clauses.{clauses_of}
 use Rattle.clause_encode.specs.PlacementList.{list_of}
 use Rattle.placer.specs.Placing.{HasNoPlacement}
 use Rattle.ref_text.specs.Text.{refutation_text, part_text}
@@ -94,8 +95,8 @@ abbrev pub RepliesAs : List ℕ → List ℕ → List ℕ → ℕ → ShelfState
 RepliesAs out script bytes clocks new before after front s =
     (text : List ℕ) × AfterReply new.file out script bytes clocks s text × Writes before after (front ++ text)
 
--- Where source and script are accepted, the statuses of a placement and of a refused input come only where the run of the files
--- at exit gives them, also over a shelf that is not honest.
+-- Where source and script are accepted, the statuses of a placement and of a refused input come only where the run of
+-- the files at exit gives them, also over a shelf that is not honest.
 abbrev pub ReadsBack : Option Command → ShelfState → ShelfState → SinkState → SinkState → Status → Type 0
 ReadsBack (Some (make src script out clocks conflicts)) old new before after s =
     (g : Graph) (bytes : List ℕ) (said : BusScript) → IsTrue old.tells → IsTrue before.tells → IsAccepted src script old.file g bytes said →
@@ -105,8 +106,8 @@ ReadsBack _ old new before after s = Unit {0}
 
 -- ---- refutations
 
--- a refutation of an accepted source is saved and told, the checker accepts it, and no placement is legal; within the budgets of
--- the command line it has fewer than 2^39 bytes
+-- a refutation of an accepted source is saved and told, the checker accepts it, and no placement is legal; within the
+-- budgets of the command line it has fewer than 2^39 bytes
 pub record IsRefuted (src script out : List ℕ) (conflicts : ℕ) (old new : ShelfState) (before after : SinkState) : Type 0 where
   pub g : Graph
   pub bytes : List ℕ
@@ -129,8 +130,8 @@ SavesRefutation (Some (make src script out clocks conflicts)) old new before aft
     IsTold old → IsTrue before.tells → s ≡ status.Refuted → IsRefuted src script out conflicts old new before after
 SavesRefutation _ old new before after s = Unit {0}
 
--- Over the files as `make` leaves them, where the source has another name than the saved refutation, `check` of the two is done,
--- unless memory is refused or a fault is counted.
+-- Over the files as `make` leaves them, where the source has another name than the saved refutation, `check` of the
+-- two is done, unless memory is refused or a fault is counted.
 abbrev pub ChecksOut : Option Command → ShelfState → ShelfState → SinkState → SinkState → Status → Type 0
 ChecksOut (Some (make src script out clocks conflicts)) old new before after s =
     (start end : ShelfState) (t : Status) (text : List ℕ) → IsTold old → IsTrue before.tells → s ≡ status.Refuted →
@@ -162,7 +163,7 @@ SpendsBudget _ old new before after s = Unit {0}
 -- ---- every accepted source
 
 -- neither the shelf nor the sink counted a fault
-pub record IsFaultless (old new : ShelfState) (before after : SinkState) : Type 0 where
+pub record NoFaultCounted (old new : ShelfState) (before after : SinkState) : Type 0 where
   pub shelf : Rose old.faults new.faults → ⊥
   pub sink : Rose before.faults after.faults → ⊥
 
@@ -174,11 +175,11 @@ IsDecision s = (s ≡ status.Done) ⊎ (s ≡ status.Refuted) ⊎ (s ≡ status.
 abbrev pub Decides : Option Command → ShelfState → ShelfState → SinkState → SinkState → Status → Type 0
 Decides (Some (make src script out clocks conflicts)) old new before after s =
     (g : Graph) (bytes : List ℕ) (said : BusScript) → IsTold old → IsTrue before.tells → IsAccepted src script old.file g bytes said →
-    IsFaultless old new before after → IsDecision s
+    NoFaultCounted old new before after → IsDecision s
 Decides _ old new before after s = Unit {0}
 
--- Over a shelf that is honest too, an accepted source is never refused, whatever was counted: not for its inputs, and not for what
--- was just saved.
+-- Over a shelf that is honest too, an accepted source is never refused, whatever was counted: not for its inputs, and
+-- not for what was just saved.
 abbrev pub NeverRefuses : Option Command → ShelfState → Status → Type 0
 NeverRefuses (Some (make src script out clocks conflicts)) old s =
     (g : Graph) (bytes : List ℕ) (said : BusScript) → IsTold old → IsAccepted src script old.file g bytes said → s ≢ status.Input

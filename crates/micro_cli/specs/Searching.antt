@@ -5,9 +5,9 @@ use Rattle.mcu_jumps.specs.Position.{Position}
 use Rattle.flow_graph.specs.Graph.{Graph}
 use Rattle.clause_base.specs.Refutation.{Refutes}
 use Rattle.clause_base.specs.Spent.{Spent}
-use Rattle.clause_base.specs.declared.log.Line.{Line}
+use Rattle.clause_base.specs.declared.line.Line.{Line}
 use Rattle.clause_base.specs.declared.clash.Clash.{Clash}
-use Rattle.clause_words.specs.Clauses.{clauses_of}
+use Rattle.placement_clauses.specs.Clauses.{clauses_of}
 use Rattle.clause_encode.specs.PlacementList.{list_of}
 use Rattle.placer.specs.Placing.{HasNoPlacement}
 use Rattle.ref_text.specs.Text.{refutation_text, part_text}
@@ -25,9 +25,9 @@ pub record FoundAnswer (out script bytes : List ℕ) (clocks : ℕ) (g : Graph) 
   pub place : List Position
   pub placed : IsPlaced out script bytes clocks g place old new s text
 
--- No placement is legal, by a refutation of the program's clauses of at most one line more than the budget. The checker accepts
--- its text, whose length is bounded by the number of lines and variables. It is saved as `OUT.ref` and told by the number of its
--- lines, or it is told that the file was not saved.
+-- No placement is legal, by a refutation of the program's clauses of at most one line more than the budget. The
+-- checker accepts its text, whose length is bounded by the number of lines and variables. It is saved as `OUT.ref`
+-- and told by the number of its lines, or it is told that the file was not saved.
 pub record RefutedAnswer (out : List ℕ) (g : Graph) (conflicts : ℕ) (old new : ShelfState) (s : Status) (text : List ℕ) : Type 0 where
   pub lines : List Line
   pub refutes : Refutes (list_of g) lines
@@ -38,8 +38,8 @@ pub record RefutedAnswer (out : List ℕ) (g : Graph) (conflicts : ℕ) (old new
   pub numbered : length (clauses_of g) + length lines < 2 ^ 32
   pub answer : SavesOrCannot (refuted_files out (refutation_text (length (clauses_of g)) lines)) status.Refuted (refuted_line (length lines)) old new s text
 
--- The budget was spent on lines that are new, and ended in a clash. Both are saved as `OUT.part` and the budget is told, or it is
--- told that the file was not saved.
+-- The budget was spent on lines that are new, and ended in a clash. Both are saved as `OUT.part` and the budget is
+-- told, or it is told that the file was not saved.
 pub record UndecidedAnswer (out : List ℕ) (g : Graph) (conflicts : ℕ) (old new : ShelfState) (s : Status) (text : List ℕ) : Type 0 where
   pub lines : List Line
   pub clash : Clash

@@ -1,7 +1,7 @@
 //! The one file of a search that found no placement, made whole before it is begun, with what is told of it.
 ghost use Rattle.std.specs.Prelude.{◌≡◌, ◌≤◌, ◌<◌, ◌+◌, ◌^◌, ◌∷◌, [], IfOk, length, string_bytes, vec_capacity};
 ghost use Rattle.io_base.specs.Shelf.{GoesOn, KeepsOthers};
-ghost use Rattle.io_base.specs.Sink.{Flows};
+ghost use Rattle.io_base.specs.Sink.{SinkGoesOn};
 ghost use Rattle.ref_text.specs.Text.{refutation_text, part_text};
 ghost use Rattle.saved_files.specs.FileNames.{refutation_name, undecided_name};
 ghost use Rattle.saved_files.specs.FilesOfAnswers.{file_of};
@@ -80,7 +80,7 @@ pub(crate) fn save_and_tell<S: Shelf, K: Sink>(
         (K.state out.old) (K.state out.new) result }
     ensures others { KeepsOthers (S.state shelf.old) (S.state shelf.new) (string_bytes file.name) }
     ensures goes_on { GoesOn (S.state shelf.old) (S.state shelf.new) }
-    ensures flows { Flows (K.state out.old) (K.state out.new) }
+    ensures sink_goes_on { SinkGoesOn (K.state out.old) (K.state out.new) }
 {
     one_written_file_is_saved();
     match save_file(shelf, file.name.as_str(), &file.text) {

@@ -1,7 +1,7 @@
 //! The answer to the words of the command line: each command has a function of its own.
 ghost use Rattle.std.specs.Prelude.{◌≡◌, map, string_bytes};
 ghost use Rattle.io_base.specs.Shelf.{GoesOn};
-ghost use Rattle.io_base.specs.Sink.{Flows};
+ghost use Rattle.io_base.specs.Sink.{SinkGoesOn};
 ghost use Rattle.replies.specs.Ending.{Ends};
 ghost use Rattle.micro_cli.specs.Command.{command_of};
 ghost use Rattle.micro_cli.specs.Answer.{Answer};
@@ -17,7 +17,7 @@ use io_base::{Shelf, Sink};
 use replies::{Status, say};
 use std::alloc::Global;
 
-/// Answers the words of the command line.
+/// Answers the words of the command line. `run` is answered by `bench_answers`, each other command here.
 pub fn answer<S: Shelf, K: Sink>(
     alloc: Global,
     words: &[String],
@@ -28,7 +28,7 @@ pub fn answer<S: Shelf, K: Sink>(
         (K.state out.old) (K.state out.new) result }
     ensures keeps { Keeps (command_of (map string_bytes words.now)) (S.state shelf.old) (S.state shelf.new) }
     ensures goes_on { GoesOn (S.state shelf.old) (S.state shelf.new) }
-    ensures flows { Flows (K.state out.old) (K.state out.new) }
+    ensures sink_goes_on { SinkGoesOn (K.state out.old) (K.state out.new) }
 {
     match request_of(words) {
         Request::Map { src } => map_command(alloc, shelf, out, src),

@@ -1,7 +1,7 @@
 //! The command `check SRC REF`: whether a file refutes that a source has a legal placement.
 ghost use Rattle.std.specs.Prelude.{◌≡◌, ◌≤◌, length};
 ghost use Rattle.io_base.specs.Shelf.{GoesOn};
-ghost use Rattle.io_base.specs.Sink.{Flows};
+ghost use Rattle.io_base.specs.Sink.{SinkGoesOn};
 ghost use Rattle.flow_graph.specs.Graph.{graph_of};
 ghost use Rattle.replies.specs.Ending.{Ends, ComesTo, OrNoMemory};
 ghost use Rattle.micro_cli.specs.Checking.{RefutationReply, CheckReply};
@@ -72,7 +72,7 @@ pub fn check_command<S: Shelf, K: Sink>(
         (K.state out.old) (K.state out.new) result }
     ensures same { (S.state shelf.new).file ≡ (S.state shelf.old).file }
     ensures goes_on { GoesOn (S.state shelf.old) (S.state shelf.new) }
-    ensures flows { Flows (K.state out.old) (K.state out.new) }
+    ensures sink_goes_on { SinkGoesOn (K.state out.old) (K.state out.new) }
 {
     let end = check_reply(alloc, shelf, src, refutation);
     say_end(out, end)

@@ -3,24 +3,29 @@ ghost use Rattle.std.specs.Prelude.{◌≡◌, ◌≤◌, map, length, string_by
 ghost use Rattle.micro_cli.specs.Command.{are_file_names, check_command, command_of, is_file_name, is_printable, clocks_in, conflicts_in, make_by, map_command, trace_by, trace_command};
 ghost use Rattle.micro_cli.specs.Request.{request_view, IsInRange};
 
-use crate::numbers::setting;
+use crate::numbers::number_after;
 
-/// What the words ask for.
+/// What the words ask for. The names of files have 1 to 200 printable bytes; there are at most 65,536 clocks and at
+/// most 1,000,000 conflicts (this project's own choice).
 #[derive(Clone, Copy)]
 pub enum Request<'a> {
+    /// `map SRC`
     Map {
         src: &'a str,
     },
+    /// `flow SRC SCRIPT clocks=N`
     Flow {
         src: &'a str,
         script: &'a str,
         clocks: u32,
     },
+    /// `run OUT SCRIPT clocks=N`
     Run {
         out: &'a str,
         script: &'a str,
         clocks: u32,
     },
+    /// `make SRC SCRIPT OUT clocks=N conflicts=B`
     Make {
         src: &'a str,
         script: &'a str,
@@ -28,10 +33,12 @@ pub enum Request<'a> {
         clocks: u32,
         conflicts: u32,
     },
+    /// `check SRC REF`
     Check {
         src: &'a str,
         refutation: &'a str,
     },
+    /// The words are no command.
     Unknown,
 }
 
@@ -54,7 +61,7 @@ fn is_file_name(word: &str) -> bool
 fn clocks_in(word: &str) -> Option<u32>
     ensures { result ≡ clocks_in word.now }
 {
-    match setting("clocks=", 65_536, word) {
+    match number_after("clocks=", 65_536, word) {
         Some(clocks) => Some(clocks as u32),
         None => None,
     }
@@ -99,7 +106,7 @@ fn conflicts_in(word: &str) -> Option<u32>
     ensures value { result ≡ conflicts_in word.now }
     ensures few { IfSome result (λ conflicts. conflicts ≤ 1000000) }
 {
-    match setting("conflicts=", 1_000_000, word) {
+    match number_after("conflicts=", 1_000_000, word) {
         Some(conflicts) => Some(conflicts as u32),
         None => None,
     }
@@ -168,7 +175,7 @@ fn three_words<'a>(word: &str, src: &'a str, refutation: &'a str) -> Request<'a>
     }
 }
 
-/// The request of these words.
+/// The request of these words, of which the first is the command.
 pub fn request_of(words: &[String]) -> Request<'_>
     ensures command { request_view result ≡ command_of (map string_bytes words.now) }
     ensures in_range { IsInRange result }

@@ -1,7 +1,7 @@
 //! The command `flow SRC SCRIPT clocks=N`: the trace of the symbolic flow of a source.
 ghost use Rattle.std.specs.Prelude.{◌≡◌, ◌≤◌, length};
 ghost use Rattle.io_base.specs.Shelf.{GoesOn};
-ghost use Rattle.io_base.specs.Sink.{Flows};
+ghost use Rattle.io_base.specs.Sink.{SinkGoesOn};
 ghost use Rattle.flow_graph.specs.Graph.{graph_of};
 ghost use Rattle.bus_script.specs.ScriptFits.{IsScriptFor};
 ghost use Rattle.replies.specs.Ending.{Ends, OrNoMemory};
@@ -12,7 +12,7 @@ use bus_script::Script;
 use flow_graph::Program;
 use flow_sim::{RunFault, flow_run};
 use io_base::{Shelf, Sink};
-use replies::{Status, say, say_stop};
+use replies::{Status, say_no_memory, say_stop};
 use std::alloc::Global;
 
 // Writes the trace of a program's flow.
@@ -25,12 +25,12 @@ fn write_flow<K: Sink>(
 ) -> Status
     requires { IsScriptFor (graph_of program.now).decl.slices script.now }
     ensures ends { Ends (OrNoMemory (IsFlow (graph_of program.now) script.now clocks)) (K.state out.old) (K.state out.new) result }
-    ensures flows { Flows (K.state out.old) (K.state out.new) }
+    ensures sink_goes_on { SinkGoesOn (K.state out.old) (K.state out.new) }
 {
     match flow_run(alloc, program, script, clocks, out) {
         Ok(()) => Status::Done,
         Err(RunFault::Failed) => Status::SinkFault,
-        Err(RunFault::OutOfMemory) => say(out, Status::NoMemory, b"no memory\n"),
+        Err(RunFault::OutOfMemory) => say_no_memory(out),
         // Each instruction of a program has a mask that its function takes.
         Err(RunFault::ShiftMask(_)) => unreachable!(),
     }
@@ -51,7 +51,7 @@ pub fn flow_command<S: Shelf, K: Sink>(
         (K.state out.old) (K.state out.new) result }
     ensures same { (S.state shelf.new).file ≡ (S.state shelf.old).file }
     ensures goes_on { GoesOn (S.state shelf.old) (S.state shelf.new) }
-    ensures flows { Flows (K.state out.old) (K.state out.new) }
+    ensures sink_goes_on { SinkGoesOn (K.state out.old) (K.state out.new) }
 {
     match load_inputs(alloc, shelf, src, script) {
         Ok(inputs) => write_flow(alloc, &inputs.program, &inputs.script, clocks, out),

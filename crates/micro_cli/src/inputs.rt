@@ -15,7 +15,9 @@ use std::alloc::Global;
 /// A program, and a script for its array.
 #[derive(Drop)]
 pub struct Inputs {
+    /// What the source means.
     pub program: Program,
+    /// What the script says, for the program's array.
     pub script: Script,
 }
 

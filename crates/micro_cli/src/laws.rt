@@ -1,5 +1,5 @@
-//! The headline's law: an answer of the program keeps each promise. It stands over the definitions alone, so its function
-//! does nothing of its own.
+//! The headline's law: an answer of the program keeps each promise. It stands over the definitions alone, so its
+//! function does nothing of its own.
 ghost use Rattle.std.specs.Prelude.{Option};
 ghost use Rattle.io_base.specs.Shelf.{ShelfState};
 ghost use Rattle.io_base.specs.Sink.{SinkState};
@@ -12,8 +12,8 @@ ghost use Rattle.micro_cli.specs.Headline.{SavesImages, ReadsBack, SavesRefutati
 
 use bench_answers::{images_follow_the_flow, saved_is_read_back};
 
-/// What a call that ends with an answer promises of saved images, of what was read back, of refutations, of spent budgets, of
-/// every accepted source, and of the files that stay.
+/// What a call that ends with an answer promises of saved images, of what was read back, of refutations, of spent
+/// budgets, of every accepted source, and of the files that stay.
 pub(crate) fn answers_keep_the_promises()
     ensures images { (command : Option Command) (old new : ShelfState) (before after : SinkState) (s : Status) →
         Ends (Answer command old new) before after s → SavesImages command old new before after s }

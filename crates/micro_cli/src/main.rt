@@ -1,4 +1,4 @@
-//! Buravelo's command line: microprograms for Intel's 3001 and 3002, placed with certainty.
+//! Buravelo's command line: microprograms for Intel's 3001 and 3002, placed, checked and run. Layer: program.
 //!
 //! `top_call::top` is the whole program over a shelf of files and a sink of bytes, and its contract is what the
 //! program promises; `main` hands it the words, the files of the system and standard output.

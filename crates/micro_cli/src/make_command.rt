@@ -1,7 +1,8 @@
-//! The command `make SRC SCRIPT OUT clocks=N conflicts=B`: a placement is searched, and what the search answers is saved.
+//! The command `make SRC SCRIPT OUT clocks=N conflicts=B`: a placement is taken from the pins or searched, and what
+//! comes of it is saved.
 ghost use Rattle.std.specs.Prelude.{◌≡◌, ◌≤◌, ◌<◌, ◌^◌, MatchResult, IfOk, length};
 ghost use Rattle.io_base.specs.Shelf.{GoesOn};
-ghost use Rattle.io_base.specs.Sink.{Flows};
+ghost use Rattle.io_base.specs.Sink.{SinkGoesOn};
 ghost use Rattle.flow_graph.specs.Graph.{graph_of};
 ghost use Rattle.micro_cli.specs.Keeping.{KeepsAllButAnswers};
 ghost use Rattle.replies.specs.Ending.{Ends, StopsBy};
@@ -70,7 +71,7 @@ fn load_make_inputs<S: Shelf>(
     }
 }
 
-/// Answers `make SRC SCRIPT OUT clocks=N conflicts=B`. Only files change whose names the answers of a search have.
+/// Answers `make SRC SCRIPT OUT clocks=N conflicts=B`. Only files change whose names the answers of `make` have.
 pub fn make_command<S: Shelf, K: Sink>(
     alloc: Global,
     shelf: &mut S,
@@ -87,7 +88,7 @@ pub fn make_command<S: Shelf, K: Sink>(
         (K.state out.old) (K.state out.new) result }
     ensures others { KeepsAllButAnswers asked.entry.out.now (S.state shelf.old) (S.state shelf.new) }
     ensures goes_on { GoesOn (S.state shelf.old) (S.state shelf.new) }
-    ensures flows { Flows (K.state out.old) (K.state out.new) }
+    ensures sink_goes_on { SinkGoesOn (K.state out.old) (K.state out.new) }
 {
     match load_make_inputs(alloc, shelf, src, asked.script) {
         Ok(inputs) => place_and_save(

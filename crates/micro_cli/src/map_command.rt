@@ -1,7 +1,7 @@
 //! The command `map SRC`: the map of a source at the cells of its pins.
 ghost use Rattle.std.specs.Prelude.{◌≡◌, ◌≤◌, length, codes};
 ghost use Rattle.io_base.specs.Shelf.{GoesOn};
-ghost use Rattle.io_base.specs.Sink.{Flows};
+ghost use Rattle.io_base.specs.Sink.{SinkGoesOn};
 ghost use Rattle.flow_graph.specs.Graph.{graph_of};
 ghost use Rattle.replies.specs.Ending.{Ends, ComesTo, OrNoMemory};
 ghost use Rattle.micro_cli.specs.Mapping.{MapReply, ProgramReply, map_kind_name};
@@ -66,7 +66,7 @@ pub fn map_command<S: Shelf, K: Sink>(
         (K.state out.old) (K.state out.new) result }
     ensures same { (S.state shelf.new).file ≡ (S.state shelf.old).file }
     ensures goes_on { GoesOn (S.state shelf.old) (S.state shelf.new) }
-    ensures flows { Flows (K.state out.old) (K.state out.new) }
+    ensures sink_goes_on { SinkGoesOn (K.state out.old) (K.state out.new) }
 {
     let end = map_reply(alloc, shelf, src);
     say_end(out, end)

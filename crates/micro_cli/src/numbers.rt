@@ -3,7 +3,7 @@ ghost use Rattle.std.specs.Prelude.{◌≡◌, ◌<◌, ◌≤◌, ◌^◌, true
 ghost use Rattle.std.specs.Char.{is_ascii_digit};
 ghost use Rattle.std.specs.List.{list_all};
 ghost use Rattle.std.specs.Str.Parse.{digits_value};
-ghost use Rattle.micro_cli.specs.Command.{is_number, number_up_to, setting};
+ghost use Rattle.micro_cli.specs.Command.{is_number, number_up_to, number_after};
 
 fn are_digits(bytes: &[u8]) -> bool
     ensures { result ≡ list_all is_ascii_digit bytes.now }
@@ -45,9 +45,9 @@ fn number_up_to(limit: u64, digits: &str) -> Option<u64>
     }
 }
 
-/// The number after a key in a word, up to a limit, as in `clocks=3`.
-pub fn setting(key: &str, limit: u64, word: &str) -> Option<u64>
-    ensures { result ≡ setting key.now limit word.now }
+/// The number after a key in a word, up to a limit, as in `clocks=3`: 1 to 20 decimal digits. None of any other word.
+pub fn number_after(key: &str, limit: u64, word: &str) -> Option<u64>
+    ensures { result ≡ number_after key.now limit word.now }
 {
     match word.strip_prefix(key) {
         Some(digits) => number_up_to(limit, digits),

@@ -1,7 +1,7 @@
-//! The search for a placement, and what becomes of its answer.
+//! A placement by the pins or by a search, and what becomes of the answer.
 ghost use Rattle.std.specs.Prelude.{◌≡◌, ◌≤◌, ◌<◌, ◌+◌, ◌^◌, length};
 ghost use Rattle.io_base.specs.Shelf.{GoesOn, KeepsOthers};
-ghost use Rattle.io_base.specs.Sink.{Flows};
+ghost use Rattle.io_base.specs.Sink.{SinkGoesOn};
 ghost use Rattle.flow_graph.specs.Graph.{graph_of};
 ghost use Rattle.ref_text.specs.Text.{refutation_text, part_text};
 ghost use Rattle.saved_files.specs.FileNames.{refutation_name, undecided_name};
@@ -23,7 +23,7 @@ use io_base::{OutOfMemory, Shelf, Sink};
 use place_model::{MapFault, pinned};
 use placer::{Placed, place};
 use refute_check::laws::{printed_refutations_are_taken, refutation_texts_are_short};
-use replies::{Status, say};
+use replies::{Status, say_no_memory};
 use std::alloc::Global;
 
 // Saves a refutation of a list of so many clauses, and tells of it.
@@ -42,11 +42,11 @@ fn save_refutation<S: Shelf, K: Sink>(
         (K.state out.old) (K.state out.new) result }
     ensures others { KeepsOthers (S.state shelf.old) (S.state shelf.new) (refutation_name name.now) }
     ensures goes_on { GoesOn (S.state shelf.old) (S.state shelf.new) }
-    ensures flows { Flows (K.state out.old) (K.state out.new) }
+    ensures sink_goes_on { SinkGoesOn (K.state out.old) (K.state out.new) }
 {
     match refuted_file(alloc, name, clauses, lines) {
         Ok(file) => save_and_tell(shelf, out, Status::Refuted, file),
-        Err(OutOfMemory) => say(out, Status::NoMemory, b"no memory\n"),
+        Err(OutOfMemory) => say_no_memory(out),
     }
 }
 
@@ -68,11 +68,11 @@ fn save_spent<S: Shelf, K: Sink>(
         (K.state out.old) (K.state out.new) result }
     ensures others { KeepsOthers (S.state shelf.old) (S.state shelf.new) (undecided_name name.now) }
     ensures goes_on { GoesOn (S.state shelf.old) (S.state shelf.new) }
-    ensures flows { Flows (K.state out.old) (K.state out.new) }
+    ensures sink_goes_on { SinkGoesOn (K.state out.old) (K.state out.new) }
 {
     match undecided_file(alloc, name, clauses, lines, clash, conflicts) {
         Ok(file) => save_and_tell(shelf, out, Status::Undecided, file),
-        Err(OutOfMemory) => say(out, Status::NoMemory, b"no memory\n"),
+        Err(OutOfMemory) => say_no_memory(out),
     }
 }
 
@@ -93,7 +93,7 @@ fn search_and_save<S: Shelf, K: Sink>(
         (K.state out.old) (K.state out.new) result }
     ensures others { KeepsAllButAnswers asked.entry.out.now (S.state shelf.old) (S.state shelf.new) }
     ensures goes_on { GoesOn (S.state shelf.old) (S.state shelf.new) }
-    ensures flows { Flows (K.state out.old) (K.state out.new) }
+    ensures sink_goes_on { SinkGoesOn (K.state out.old) (K.state out.new) }
 {
     printed_refutations_are_taken();
     refutation_texts_are_short();
@@ -111,17 +111,17 @@ fn search_and_save<S: Shelf, K: Sink>(
                 alloc, shelf, out, asked.out, clauses, lines, &clash, conflicts,
             )
         }
-        Err(OutOfMemory) => say(out, Status::NoMemory, b"no memory\n"),
+        Err(OutOfMemory) => say_no_memory(out),
     }
 }
 
-/// Places a program by its pins where these give a legal placement, and else searches one within a budget of conflicts of at
-/// most 1,000,000. Saves what it finds: a placement as `save_and_run` saves and runs it; a refutation as `OUT.ref`, told by
-/// `refuted L` for its L lines; or the lines and the clash of a spent budget of B conflicts as `OUT.part`, told by
-/// `undecided B`.
+/// Places a program by its pins where these give a legal placement, and else searches one within a budget of
+/// conflicts of at most 1,000,000. Saves what it finds: a placement as `save_and_run` saves and runs it; a refutation
+/// as `OUT.ref`, told by `refuted L` for its L lines; or the lines and the clash of a spent budget of B conflicts as
+/// `OUT.part`, told by `undecided B`.
 ///
-/// A file that is not saved is told. No other file changes. Memory is refused before the first file is begun, or once all files
-/// of a placement are saved.
+/// A file that is not saved is told. No other file changes. Memory is refused before the first file is begun, or once
+/// all files of a placement are saved.
 pub fn place_and_save<S: Shelf, K: Sink>(
     alloc: Global,
     shelf: &mut S,
@@ -138,7 +138,7 @@ pub fn place_and_save<S: Shelf, K: Sink>(
         (K.state out.old) (K.state out.new) result }
     ensures others { KeepsAllButAnswers asked.entry.out.now (S.state shelf.old) (S.state shelf.new) }
     ensures goes_on { GoesOn (S.state shelf.old) (S.state shelf.new) }
-    ensures flows { Flows (K.state out.old) (K.state out.new) }
+    ensures sink_goes_on { SinkGoesOn (K.state out.old) (K.state out.new) }
 {
     match pinned(alloc, program) {
         Ok(placement) => save_and_run(alloc, shelf, out, asked, program, &placement, script_bytes),
@@ -146,7 +146,7 @@ pub fn place_and_save<S: Shelf, K: Sink>(
         Err(MapFault::At { .. }) => {
             search_and_save(alloc, shelf, out, asked, program, script_bytes, conflicts)
         }
-        Err(MapFault::OutOfMemory) => say(out, Status::NoMemory, b"no memory\n"),
+        Err(MapFault::OutOfMemory) => say_no_memory(out),
     }
 }
 

@@ -1,7 +1,7 @@
 //! The whole program as one call, over any shelf and any sink.
 ghost use Rattle.std.specs.Prelude.{◌≡◌, map, string_bytes};
 ghost use Rattle.io_base.specs.Shelf.{GoesOn};
-ghost use Rattle.io_base.specs.Sink.{Flows};
+ghost use Rattle.io_base.specs.Sink.{SinkGoesOn};
 ghost use Rattle.replies.specs.Ending.{Ends};
 ghost use Rattle.micro_cli.specs.Command.{command_of};
 ghost use Rattle.micro_cli.specs.Answer.{Answer};
@@ -41,7 +41,7 @@ pub fn top<S: Shelf, K: Sink>(alloc: Global, words: &[String], shelf: &mut S, ou
     ensures keeps { Keeps (command_of (map string_bytes words.now)) (S.state shelf.old) (S.state shelf.new) }
     ensures nothing { ChangesNothing (S.state shelf.old) (S.state shelf.new) result }
     ensures goes_on { GoesOn (S.state shelf.old) (S.state shelf.new) }
-    ensures flows { Flows (K.state out.old) (K.state out.new) }
+    ensures sink_goes_on { SinkGoesOn (K.state out.old) (K.state out.new) }
 {
     let status = answer(alloc, words, shelf, out);
     answers_keep_the_promises();

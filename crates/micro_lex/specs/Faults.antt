@@ -1,4 +1,4 @@
--- The faults that a line can have, and how a function reports one.
+-- The faults that a line can have (this project's own choice), and how a function reports one.
 use Rattle.std.specs.Prelude.{◌≡◌, ℕ, Result, Ok, Err}
 use Rattle.micro_lex.specs.declared.fault.LexFault.{LexFault}
 use Rattle.micro_lex.specs.declared.fault.LexFault.TheVariants as faults

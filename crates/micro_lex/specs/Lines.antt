@@ -1,4 +1,4 @@
--- The lines of a text.
+-- The lines of a text. What ends a line is this project's own choice.
 use Rattle.std.specs.Prelude.{ℕ, Bool, not, ◌==◌, if◌then◌else◌, List, [], ◌∷◌, map}
 
 -- a byte before the first piece
@@ -21,5 +21,6 @@ without_cr (b ∷ c ∷ bs) = b ∷ without_cr (c ∷ bs)
 abbrev pub lines : List ℕ → List (List ℕ)
 lines bytes = map without_cr (pieces bytes)
 
+-- any byte but LF
 abbrev pub is_not_lf : ℕ → Bool
 is_not_lf b = not (b == 10)

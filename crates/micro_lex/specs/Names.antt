@@ -1,4 +1,4 @@
--- The bytes of a name, and where a token lies in its line.
+-- The bytes of a name (this project's own choice), and where a token lies in its line.
 use Rattle.std.specs.Prelude.{◌≡◌, ℕ, ◌<◌, ◌≤◌, false, true, List, length, slice_index, slice_range}
 use Rattle.std.specs.List.{list_all}
 use Rattle.std.specs.Char.{is_ascii_digit}

@@ -1,4 +1,4 @@
--- The tokens of a line, or its first faulty place.
+-- The tokens of a line, or its first faulty place (this project's own choice).
 use Rattle.std.specs.Prelude.{ℕ, ◌+◌, ◌-◌, Bool, not, ◌&&◌, ◌==◌, nat_lt, if◌then◌else◌, List, [], ◌∷◌, ◌++◌, length, drop, map, take_while, slice_index, Option, Some, None, Result, Ok, Err}
 use Rattle.std.specs.List.{range_with_len}
 use Rattle.micro_lex.specs.declared.token.Token.{Token}

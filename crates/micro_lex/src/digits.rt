@@ -17,7 +17,7 @@ fn digit(byte: u8) -> u128
     }
 }
 
-/// The number with one digit more, or None where it is 2^128 or more.
+// The number with one digit more, or None where it is 2^128 or more.
 fn with_digit(value: u128, radix: u128, digit: u128) -> Option<u128>
     ensures { SomeIff result (value * radix + digit < 2 ^ 128) (value * radix + digit) }
 {

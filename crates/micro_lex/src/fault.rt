@@ -18,6 +18,7 @@ pub enum LexFault {
     NumberTooWide(u32),
     /// A name of more than 32 bytes.
     NameTooLong(u32),
+    /// Memory was refused.
     OutOfMemory,
 }
 

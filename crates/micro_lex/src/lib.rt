@@ -1,7 +1,7 @@
-//! Lines of a text and tokens of a line: the lexical layer of every text that the system reads.
+//! Lines of a text and tokens of a line, as sources, layouts and scripts share them. Layer: language.
 //!
 //! `next_line` cuts a text into its lines. `tokens` gives just the tokens of a line with their
-//! places, or just the first faulty place with its column. Sources, layouts and scripts share it.
+//! places, or just the first faulty place with its column. The lexical form is this project's own choice.
 #![tactic(auto)]
 
 mod alphabet;

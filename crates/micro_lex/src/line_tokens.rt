@@ -27,7 +27,7 @@ fn mark_kind(column: u32, byte: u8) -> Result<TokenKind, LexFault>
     }
 }
 
-/// Where the run that stands at this place ends.
+// Where the run that stands at this place ends.
 fn run_end(line: &[u8], start: usize) -> usize
     requires { start ≤ length line.now }
     ensures end { result ≡ start + prefix_len is_run_byte (drop start line.now) }
@@ -36,7 +36,7 @@ fn run_end(line: &[u8], start: usize) -> usize
     start + run_len(&line[start..])
 }
 
-/// What the run between these places is.
+// What the run between these places is.
 fn kind_between(line: &[u8], start: usize, end: usize) -> Result<TokenKind, LexFault>
     requires some { start < end }
     requires within { end ≤ length line.now }
@@ -46,7 +46,7 @@ fn kind_between(line: &[u8], start: usize, end: usize) -> Result<TokenKind, LexF
     run_kind(start as u32 + 1, &line[start..end])
 }
 
-/// The token that begins at this place, or None at a space.
+// The token that begins at this place, or None at a space.
 #[tactic(auto, unfolding(crate::specs::Reading::token_at))]
 fn token_at(line: &[u8], start: usize) -> Result<Option<Token>, LexFault>
     requires within { start < length line.now }

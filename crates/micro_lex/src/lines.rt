@@ -5,17 +5,21 @@ ghost use Rattle.std.specs.List.{prefix_len};
 ghost use Rattle.micro_lex.specs.Lines.{without_cr, is_not_lf};
 ghost use Rattle.micro_lex.specs.LineSpans.{IsLineAt};
 
-/// A line of a text: its bytes from `start` up to `end`, and where the next line begins.
+/// A line of a text: its bytes from `start` up to, and not with, that at `end`.
 #[derive(Clone, Copy, Debug, PartialEq, Eq)]
 pub struct LineSpan {
+    /// Byte place of its first byte, from 0.
     pub start: usize,
+    /// Behind its last byte, without LF and a dropped CR.
     pub end: usize,
+    /// Where the next line begins.
     pub after: usize,
 }
 
 /// The line that begins at this place, or None at the text's end.
 ///
-/// A line ends at its LF, and the last one at the text's end too. One CR at its end is dropped.
+/// `at` is a byte place where a line begins. A line ends at its LF, and the last one at the text's end
+/// too. One CR at its end is dropped.
 pub fn next_line(bytes: &[u8], at: usize) -> Option<LineSpan>
     requires { at ≤ length bytes.now }
     ensures none { IsNone result ↔ (at ≡ length bytes.now) }
@@ -34,7 +38,7 @@ pub fn next_line(bytes: &[u8], at: usize) -> Option<LineSpan>
     })
 }
 
-/// Where the piece that begins at this place ends.
+// Where the piece that begins at this place ends.
 fn piece_end(bytes: &[u8], start: usize) -> usize
     requires { start ≤ length bytes.now }
     ensures end { result ≡ start + prefix_len is_not_lf (drop start bytes.now) }
@@ -43,7 +47,7 @@ fn piece_end(bytes: &[u8], start: usize) -> usize
     start + piece_len(&bytes[start..])
 }
 
-/// How many bytes stand before the first LF.
+// How many bytes stand before the first LF.
 fn piece_len(bytes: &[u8]) -> usize
     ensures len { result ≡ prefix_len is_not_lf bytes.now }
     ensures within { result ≤ length bytes.now }
@@ -51,7 +55,7 @@ fn piece_len(bytes: &[u8]) -> usize
     bytes.iter().take_while(|byte| **byte != b'\n').count()
 }
 
-/// Where the piece between these places ends without a CR at its end.
+// Where the piece between these places ends without a CR at its end.
 fn kept_end(bytes: &[u8], start: usize, stop: usize) -> usize
     requires ordered { start ≤ stop }
     requires within { stop ≤ length bytes.now }

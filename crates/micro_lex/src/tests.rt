@@ -3,7 +3,7 @@
 use crate::{LexFault, LineSpan, Token, TokenKind, next_line, tokens};
 use std::test::Fail;
 
-/// A token of this kind between these places.
+// A token of this kind between these places.
 fn token(kind: TokenKind, start: usize, end: usize) -> Token {
     Token { kind, start, end }
 }
@@ -96,7 +96,7 @@ fn lines_give_their_first_fault(rt: HostRuntime) -> Result<(), Fail> {
     Ok(())
 }
 
-/// A line from this place up to that, and where the next begins.
+// A line from this place up to that, and where the next begins.
 fn span(start: usize, end: usize, after: usize) -> LineSpan {
     LineSpan { start, end, after }
 }

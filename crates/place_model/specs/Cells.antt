@@ -1,4 +1,4 @@
--- The cells of a placement, and the cells that targets ask for.
+-- The cells of a placement, and the cells that targets ask for. What the trap asks for is this project's own choice.
 use Rattle.std.specs.Prelude.{ℕ, ◌≡◌, ◌≢◌, ◌<◌, List, Option, Some, None, map, slice_get}
 use Rattle.std.specs.Option.{option_and_then}
 use Rattle.mcu_jumps.specs.Position.{Position}

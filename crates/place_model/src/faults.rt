@@ -15,10 +15,11 @@ pub enum MapKind {
     NoJump,
 }
 
-/// Why there is no pinned placement: the line of the first instruction at fault, and what is wrong
-/// there; or memory was refused.
+/// Why there is no pinned placement.
 #[derive(Clone, Copy, Debug, PartialEq, Eq)]
 pub enum MapFault {
+    /// The line of the first instruction at fault, from 1, and what is wrong.
     At { line: u32, kind: MapKind },
+    /// Memory was refused.
     OutOfMemory,
 }

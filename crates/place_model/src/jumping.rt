@@ -74,7 +74,7 @@ pub(crate) fn least_jump(placement: &Placement, instr: &Instr, from: Cell) -> Op
     }
 }
 
-/// The jump that the instruction at a label becomes in a legal placement.
+/// The jump that the instruction at a label becomes in a legal placement: the one of least AC value.
 pub fn jump_of(program: &Program, placement: &Placement, label: u16) -> Jump
     requires legal { IsLegal (graph_of program.now) placement.now }
     requires label { label < length (graph_of program.now).instrs }

@@ -60,7 +60,8 @@ pub(crate) fn first_fault(program: &Program, placement: &Placement) -> Option<(u
 
 /// Whether a placement is legal: the cells differ, pinned labels have their cells, the start is at
 /// row 0, column 0, the rows are below the bound, and each instruction has a jump that lands as its
-/// targets ask.
+/// targets ask: on the cell of each label, and for the trap on a cell that no label has. What is legal
+/// is this project's own choice, over the 3001's jump table.
 pub fn legal(program: &Program, placement: &Placement) -> bool
     requires { length placement.now ≡ length (graph_of program.now).instrs }
     ensures { IsTrue result ↔ IsLegal (graph_of program.now) placement.now }

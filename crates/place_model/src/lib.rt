@@ -1,5 +1,5 @@
 //! Placements: which cell each instruction stands in, when that is legal, which jump each
-//! instruction then becomes, and the map text that shows both.
+//! instruction then becomes, and the map text that shows both. Layer: meaning.
 //!
 //! `legal` is the definition of a legal placement, exactly. `pinned` takes the placement that the
 //! source's pins give, or tells the first reason why there is none.

@@ -57,8 +57,9 @@ fn add_line(out: &mut Vec<u8>, name: &[u8], cell: Cell, jump: Jump) -> Result<()
     out.extend_from_slice(b"\n")
 }
 
-/// The map text of a legal placement: for each label, in source order, its name, its row and column,
-/// the AC value of its jump in hexadecimal, the jump code's name and the operand.
+/// The map text of a legal placement: for each label, in source order, its name, its row and column in
+/// decimal, the AC value of its jump as two hexadecimal digits, the jump code's name and the operand in
+/// decimal. The format is this project's own.
 pub fn map_text(
     alloc: Global,
     program: &Program,

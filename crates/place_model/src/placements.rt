@@ -21,12 +21,14 @@ impl Model for Placement {
 }
 
 impl Placement {
+    /// The placement of these cells, the first of which is that of label 0.
     pub fn new(cells: Vec<Cell>) -> Placement
         ensures { result ≡ cells.items }
     {
         Placement { cells }
     }
 
+    /// The cells in the labels' order.
     pub fn as_slice(&self) -> &[Cell]
         ensures { result.now ≡ self.now }
     {
@@ -41,7 +43,7 @@ impl Placement {
         self.cells[label as usize]
     }
 
-    // Whether one of the first `count` labels has this cell.
+    /// Whether one of the first `count` labels has this cell.
     pub(crate) fn is_taken_below(&self, count: u16, cell: Cell) -> bool
         requires { count ≤ length self.now }
         ensures { MatchBool result (IsTakenBelow self.now count cell) (IsFreeBelow self.now count cell) }

@@ -2,7 +2,7 @@
 ghost use Rattle.std.specs.Prelude.{ℕ, ◌≡◌, ◌<◌, ◌≤◌, ◌==◌, IsTrue, Some, length, position, slice_get};
 ghost use Rattle.std.specs.Str.{bytes_eq};
 ghost use Rattle.field_decl.specs.Decls.{declaration_of};
-ghost use Rattle.flow_graph.specs.Microwords.{IsMicroword, AreMicrowords};
+ghost use Rattle.flow_graph.specs.Microwords.{FitsDeclaration, AllFitDeclaration};
 ghost use Rattle.flow_graph.specs.Targets.{AreTargets};
 ghost use Rattle.flow_graph.specs.Valid.{IsInstr, IsProgram};
 ghost use Rattle.flow_graph.specs.declared.instructions.Instr.{Instr};
@@ -136,7 +136,7 @@ fn is_program(rows: u8, start: u16, pins: &[Pin], instrs: &[Instr]) -> bool
 
 // Whether this instruction has no mask, in a declaration without fields.
 fn is_microword(decl: &Decl, instr: &Instr) -> bool
-    ensures { IsTrue result → IsMicroword (declaration_of decl.now) instr.now }
+    ensures { IsTrue result → FitsDeclaration (declaration_of decl.now) instr.now }
 {
     instr.mask == 0
         && has_kbits(decl.slices, decl.kbus, instr.mask as u128)
@@ -145,7 +145,7 @@ fn is_microword(decl: &Decl, instr: &Instr) -> bool
 }
 
 fn are_microwords(decl: &Decl, instrs: &[Instr]) -> bool
-    ensures { IsTrue result → AreMicrowords (declaration_of decl.now) instrs.now }
+    ensures { IsTrue result → AllFitDeclaration (declaration_of decl.now) instrs.now }
 {
     for label in 0..instrs.len() {
         if !is_microword(decl, &instrs[label]) {

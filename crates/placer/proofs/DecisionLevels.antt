@@ -12,9 +12,9 @@ use Rattle.std.proofs.lemmas.List.Sums.{sum_by-cons, sum_by-append}
 use Rattle.clause_base.specs.Lit.{var_of, is_positive}
 use Rattle.clause_base.specs.Truth.{lits_of, sign_in, value_in, IsConflict}
 use Rattle.clause_base.specs.Clauses.{Clauses}
-use Rattle.clause_base.specs.Refutation.{Derived, IsRun}
-use Rattle.clause_base.specs.declared.log.Line.{Line}
-use Rattle.clause_base.specs.declared.clash.Entry.{Entry}
+use Rattle.clause_base.specs.Refutation.{Derived, IsUnitRun}
+use Rattle.clause_base.specs.declared.line.Line.{Line}
+use Rattle.clause_base.specs.declared.entry.Entry.{Entry}
 use Rattle.trail.specs.Assignment.{sign_of, value_of, level_of, step_of, Follows, IsTrail}
 use Rattle.trail.proofs.Levels.{step-decision}
 use Rattle.propagate.specs.Standing.{Standing, IsSound}
@@ -59,7 +59,7 @@ Derived-decisions b n t laid c line clause_is hints_is =
       above = subst (λ (l : List ℤ). All (λ z. 0 < var_of z) l) (sym clause_is) (all-decided (λ z. 0 < var_of z) es [] es refl (λ x d a whole zero_reason. subst (λ (v : ℕ). 0 < v) (sym (var-neg d.lit)) (f x d a whole).above));
       in_range = subst (λ (l : List ℤ). All (λ z. var_of z ≤ b.list.vars) l) (sym clause_is) (all-decided (λ z. var_of z ≤ b.list.vars) es [] es refl (λ x d a whole zero_reason. subst (λ (v : ℕ). v ≤ b.list.vars) (sym (var-neg d.lit)) (subst (λ (v : ℕ). var_of d.lit ≤ v) laid.same_vars (f x d a whole).in_range)));
       apart = subst (λ (l : List ℤ). AllPairs (λ p q. var_of p ≢ var_of q) l) (sym clause_is) (apart-pairs (flat_map negation_of es) (apart-decided es (trail-apart b.trail.vars es t)));
-      run = subst (λ (l : List ℤ). IsRun b.list.clauses (map neg_ℤ l) line.hints) (sym clause_is) (subst (λ (hs : List ℕ). IsRun b.list.clauses (map neg_ℤ (flat_map negation_of es)) hs) (sym hints_is) (run b.trail.vars b.list.clauses es n t laid.forced c));
+      run = subst (λ (l : List ℤ). IsUnitRun b.list.clauses (map neg_ℤ l) line.hints) (sym clause_is) (subst (λ (hs : List ℕ). IsUnitRun b.list.clauses (map neg_ℤ (flat_map negation_of es)) hs) (sym hints_is) (run b.trail.vars b.list.clauses es n t laid.forced c));
     }
 
 -- the last decision of the entries

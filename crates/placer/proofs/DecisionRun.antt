@@ -12,8 +12,8 @@ use Rattle.std.proofs.lemmas.Option.{slice_get-get_or}
 use Rattle.std.proofs.lemmas.List.Sums.{sum_by-cons, sum_by-append}
 use Rattle.clause_base.specs.Lit.{var_of, is_positive}
 use Rattle.clause_base.specs.Truth.{lits_of, sign_in, value_in, Forces, IsConflict, IsFalse}
-use Rattle.clause_base.specs.Refutation.{IsRun}
-use Rattle.clause_base.specs.declared.clash.Entry.{Entry}
+use Rattle.clause_base.specs.Refutation.{IsUnitRun}
+use Rattle.clause_base.specs.declared.entry.Entry.{Entry}
 use Rattle.trail.specs.Assignment.{Follows, IsTrail}
 use Rattle.trail.proofs.Order.{IsTrail-at}
 use Rattle.propagate.specs.Standing.{AreForced}
@@ -73,9 +73,9 @@ forced-at cs before e rest k implied =
     subst (λ (b : List Entry). Forces (lits_of b) cs e.reason e.lit) (take_at before (e ∷ rest) (length before) refl) (k (length before) e there implied)
 
 -- one hint more in front of a run
-pub IsRun-step : (cs : List (List ℤ)) (held : List ℤ) (h : ℕ) (z : ℤ) (hs : List ℕ) → Forces held cs h z → IsRun cs (held ++ z ∷ []) hs → IsRun cs held (h ∷ hs)
-IsRun-step cs held h z [] a r = absurd r
-IsRun-step cs held h z (g ∷ hs) a r = (z, a, r)
+pub IsUnitRun-step : (cs : List (List ℤ)) (held : List ℤ) (h : ℕ) (z : ℤ) (hs : List ℕ) → Forces held cs h z → IsUnitRun cs (held ++ z ∷ []) hs → IsUnitRun cs held (h ∷ hs)
+IsUnitRun-step cs held h z [] a r = absurd r
+IsUnitRun-step cs held h z (g ∷ hs) a r = (z, a, r)
 
 pub false-under : (all held front : List ℤ) → AreApart all → ((z : ℤ) → In z held → In z all) → ((z : ℤ) → In z front → In z held) → (clause : List ℤ) → IsFalse front clause → IsFalse held clause
 false-under all held front apart sub pre clause h = All-weaker (λ z. value_in z front ≡ Some false) (λ z. value_in z held ≡ Some false) (λ z v. value-of_sign z front held (λ s e. same-sign all held front apart sub pre (var_of z) s e) false v) clause h
@@ -144,21 +144,21 @@ module _ (vars : ℕ) (cs : List (List ℤ)) (es : List Entry) (n : ℕ) (t : Is
         };
       }
 
-  run_from : (before rest : List Entry) → before ++ rest ≡ es → IsRun cs (held_at before) (flat_map reason_of rest ++ n ∷ [])
+  run_from : (before rest : List Entry) → before ++ rest ≡ es → IsUnitRun cs (held_at before) (flat_map reason_of rest ++ n ∷ [])
   run_from before [] whole =
       let all : before ≡ es = sym (append-nil before) ∙ whole in
       let f : IsFalse (held_at before) c.clause = false-under (lits_of es) (held_at before) (lits_of es) apart (sub before [] whole) (λ z i. pre before [] whole z (subst (λ (xs : List Entry). In z (lits_of xs)) (sym all) i)) c.clause c.all_false in
       record { clause = c.clause; numbered = c.numbered; all_false = f }
   run_from before (e ∷ rest) whole = by (e.reason == 0) refl (run_from (before ++ e ∷ []) rest (append_assoc before (e ∷ []) rest ∙ whole))
     where
-      by : (p : Bool) → (e.reason == 0) ≡ p → IsRun cs (held_at (before ++ e ∷ [])) (flat_map reason_of rest ++ n ∷ []) → IsRun cs (held_at before) (((if p then [] else e.reason ∷ []) ++ flat_map reason_of rest) ++ n ∷ [])
+      by : (p : Bool) → (e.reason == 0) ≡ p → IsUnitRun cs (held_at (before ++ e ∷ [])) (flat_map reason_of rest ++ n ∷ []) → IsUnitRun cs (held_at before) (((if p then [] else e.reason ∷ []) ++ flat_map reason_of rest) ++ n ∷ [])
       by true decision r =
           let same : flat_map implied_of (before ++ e ∷ []) ≡ flat_map implied_of before = flat_map-append implied_of before (e ∷ []) ∙ ap (λ p. flat_map implied_of before ++ ((if p then [] else e.lit ∷ []) ++ [])) decision ∙ append-nil (flat_map implied_of before) in
-          subst (λ (l : List ℤ). IsRun cs (flat_map decision_of es ++ l) (flat_map reason_of rest ++ n ∷ [])) same r
+          subst (λ (l : List ℤ). IsUnitRun cs (flat_map decision_of es ++ l) (flat_map reason_of rest ++ n ∷ [])) same r
       by false implied r =
           let same : flat_map decision_of es ++ flat_map implied_of (before ++ e ∷ []) ≡ held_at before ++ e.lit ∷ [] = ap (λ l. flat_map decision_of es ++ l) (flat_map-append implied_of before (e ∷ []) ∙ ap (λ p. flat_map implied_of before ++ ((if p then [] else e.lit ∷ []) ++ [])) implied) ∙ sym (append_assoc (flat_map decision_of es) (flat_map implied_of before) (e.lit ∷ [])) in
-          IsRun-step cs (held_at before) e.reason e.lit (flat_map reason_of rest ++ n ∷ []) (forces before e rest whole implied) (subst (λ (l : List ℤ). IsRun cs l (flat_map reason_of rest ++ n ∷ [])) same r)
+          IsUnitRun-step cs (held_at before) e.reason e.lit (flat_map reason_of rest ++ n ∷ []) (forces before e rest whole implied) (subst (λ (l : List ℤ). IsUnitRun cs l (flat_map reason_of rest ++ n ∷ [])) same r)
 
   -- from all decisions, the reasons along the trail lead to the conflict
-  pub run : IsRun cs (map neg_ℤ (flat_map negation_of es)) (flat_map reason_of es ++ n ∷ [])
-  run = subst (λ (l : List ℤ). IsRun cs l (flat_map reason_of es ++ n ∷ [])) (append-nil (flat_map decision_of es) ∙ sym (negated-decided es)) (run_from [] es refl)
+  pub run : IsUnitRun cs (map neg_ℤ (flat_map negation_of es)) (flat_map reason_of es ++ n ∷ [])
+  run = subst (λ (l : List ℤ). IsUnitRun cs l (flat_map reason_of es ++ n ∷ [])) (append-nil (flat_map decision_of es) ∙ sym (negated-decided es)) (run_from [] es refl)

@@ -6,6 +6,7 @@ use Rattle.std.specs.List.{list_any}
 use Rattle.std.proofs.lemmas.Bool.{eqb-true}
 use Rattle.std.proofs.lemmas.Bool.Decides.{Decides-eqb}
 use Rattle.std.proofs.lemmas.List.{length-map, get_or-map, length-take-le, get_or-take, get_or-append-add, length-append}
+use Rattle.std.proofs.lemmas.List.Kept.{AllPairs-cons}
 use Rattle.std.proofs.lemmas.Option.{slice_get-get_or, slice_get_within, get_or_from_slice_get}
 use Rattle.std.proofs.lemmas.Map.Made.{IsDistinct-from_AllPairs}
 use Rattle.std.proofs.lemmas.Map.Views.{Contains-from_any}
@@ -15,7 +16,7 @@ use Rattle.clause_base.specs.Truth.{sign_in}
 use Rattle.clause_base.specs.Clauses.{Clauses}
 use Rattle.clause_base.specs.Refutation.{Derived, AreDerived, with_lines, clause_of}
 use Rattle.clause_base.specs.Spent.{AreNew, Spent}
-use Rattle.clause_base.specs.declared.log.Line.{Line}
+use Rattle.clause_base.specs.declared.line.Line.{Line}
 use Rattle.clause_base.specs.declared.clash.Clash.{Clash}
 use Rattle.placer.proofs.Signs.{In, in-get_or, none-from, AreApart}
 use Rattle.placer.proofs.LineCodes.{code_of, code-lt, code-subset}
@@ -80,12 +81,6 @@ code-above v (z ∷ zs) apart above in_range full h =
     let lt : 0 < suc (length zs) = omega arith in
     code-subset v (z ∷ zs) [] apart (sym h ∙ sym (code-nil v)) z (above 0 z lt) (in_range 0 z lt) (inl refl)
 
-pairs-cons : (x : ℕ) (xs : List ℕ) → ((k : ℕ) (d : ℕ) → k < length xs → x ≢ get_or xs k d) → AllPairs (λ a b. a ≢ b) xs → AllPairs (λ a b. a ≢ b) (x ∷ xs)
-pairs-cons x xs h a zero zero d lt within = absurd (omega arith)
-pairs-cons x xs h a zero (suc j) d lt within = h j d (omega arith)
-pairs-cons x xs h a (suc i) zero d lt within = absurd (omega arith)
-pairs-cons x xs h a (suc i) (suc j) d lt within = a i j d (omega arith) (omega arith)
-
 -- lines that are derived, new and not empty are fewer than 3 ^ vars
 pub few-lines : (list : Clauses) (lines : List Line) → AreDerived list lines → AreNew list lines → All (λ l. l.clause ≢ []) lines → length lines < 3 ^ list.vars
 few-lines list lines derived fresh full =
@@ -100,7 +95,7 @@ few-lines list lines derived fresh full =
     code-above list.vars (get_or lines k s).clause (pairs-apart (get_or lines k s).clause dx.apart) dx.above dx.in_range (full k s k_lt) (e ∙ at k d k_lt)) in
     let most : length (0 ∷ map (λ (l : Line). code_of list.vars l.clause) lines) ≤ 3 ^ list.vars =
     length-le_from_distinct_below (0 ∷ map (λ (l : Line). code_of list.vars l.clause) lines) (3 ^ list.vars)
-    (IsDistinct-from_AllPairs Decides-eqb (0 ∷ map (λ (l : Line). code_of list.vars l.clause) lines) (pairs-cons 0 (map (λ (l : Line). code_of list.vars l.clause) lines) positive (codes-apart list lines derived fresh)))
+    (IsDistinct-from_AllPairs Decides-eqb (0 ∷ map (λ (l : Line). code_of list.vars l.clause) lines) (AllPairs-cons (λ a b. a ≢ b) 0 (map (λ (l : Line). code_of list.vars l.clause) lines) positive (codes-apart list lines derived fresh)))
     (λ q h. below q (Contains-from_any {eq = eqb} eqb-true q (0 ∷ map (λ (l : Line). code_of list.vars l.clause) lines) h))
     in omega arith
   where

@@ -4,14 +4,15 @@ use Rattle.std.proofs.Common.{◌≡◌, ◌≢◌, ℕ, ℤ, suc, ◌+◌, ◌-
 use Rattle.std.specs.Prelude.{AllPairs, All, Any, Contains, slice_get, nat_le}
 use Rattle.std.proofs.lemmas.Bool.{cases_lt, cases_order}
 use Rattle.std.proofs.lemmas.Bool.Decides.{nat_tests}
-use Rattle.std.proofs.lemmas.List.{append-nil, append_assoc, length-append, get_or_at, get_or_append_left, get_or-append-add}
+use Rattle.std.proofs.lemmas.List.{append-nil, append_assoc, length-append, get_or_at}
 use Rattle.std.proofs.lemmas.List.Elements.{All-append, All-contains, All-weaker, Contains-append_cases, Contains-get_or}
 use Rattle.std.proofs.lemmas.Option.{slice_get-get_or, slice_get_within, get_or_from_slice_get, same_Some}
 use Rattle.clause_base.specs.Lit.{var_of}
 use Rattle.clause_base.specs.Clauses.{Clauses, IsClause}
 use Rattle.clause_base.specs.Truth.{lits_of, IsFalse, IsSatisfied, HasTwo, IsSettled}
 use Rattle.clause_base.specs.Spent.{IsNew}
-use Rattle.clause_base.specs.declared.clash.Entry.{Entry}
+use Rattle.clause_base.specs.declared.entry.Entry.{Entry}
+use Rattle.placement_clauses.proofs.UptoLemmas.{All-append_left, All-append_right}
 use Rattle.trail.specs.Assignment.{value_of, level_of, IsTrail}
 use Rattle.propagate.specs.Standing.{Standing, IsSound, up_to}
 use Rattle.propagate.proofs.SettledLevels.{up_to-back}
@@ -34,13 +35,8 @@ at-split P front own rest z f r i = ⊎_elim
         single : Contains (own ∷ []) z → P z ⊎ (own ≡ z)
         single c = let zero_there : c.0 ≡ 0 = let lt : c.0 < length (own ∷ []) = c.1 in omega arith in inr (sym (ap (λ k. get_or (own ∷ []) k z) zero_there) ∙ c.2)
 
-pub all-left : (P : ℤ → Type 0) (xs ys : List ℤ) → All P (xs ++ ys) → All P xs
-all-left P xs ys h i d lt = let within : i < length (xs ++ ys) = omega (arith, length-append xs ys) in subst P (get_or_append_left xs ys d i lt) (h i d within)
-
-pub all-right : (P : ℤ → Type 0) (xs ys : List ℤ) → All P (xs ++ ys) → All P ys
-all-right P xs ys h i d lt = let within : length xs + i < length (xs ++ ys) = omega (arith, length-append xs ys) in subst P (get_or-append-add xs ys i d) (h (length xs + i) d within)
-
--- what is known of a line at the end of a level below the present one, from `back` on: its own literal is unassigned, the others false
+-- what is known of a line at the end of a level below the present one, from `back` on: its own literal is unassigned,
+-- the others false
 module _ (es : List Entry) (clause : List ℤ) (back : ℕ) (vars : ℕ) (t : IsTrail vars es) (k : Asserts es clause back) where
   apart : AreApart (lits_of es)
   apart = trail-apart vars es t
@@ -61,12 +57,12 @@ module _ (es : List Entry) (clause : List ℤ) (back : ℕ) (vars : ℕ) (t : Is
       let whole : IsFalse (lits_of es) (k.front ++ k.own ∷ k.rest) = subst (λ (c : List ℤ). IsFalse (lits_of es) c) k.split k.all_false in
       let F : ℤ → Type 0 = λ z. value_of z es ≡ Some false in
       let L : ℤ → Type 0 = λ z. level_at (var_of z) es ≤ back in
-      let front_false : IsFalse (lits_of es) k.front = all-left F k.front (k.own ∷ k.rest) whole in
-      let own_rest : IsFalse (lits_of es) (k.own ∷ k.rest) = all-right F k.front (k.own ∷ k.rest) whole in
-      let rest_false : IsFalse (lits_of es) k.rest = all-right F (k.own ∷ []) k.rest own_rest in
+      let front_false : IsFalse (lits_of es) k.front = All-append_left F k.front (k.own ∷ k.rest) whole in
+      let own_rest : IsFalse (lits_of es) (k.own ∷ k.rest) = All-append_right F k.front (k.own ∷ k.rest) whole in
+      let rest_false : IsFalse (lits_of es) k.rest = All-append_right F (k.own ∷ []) k.rest own_rest in
       at-split (λ z. value_of z (up_to l es) ≡ Some false) k.front k.own k.rest z
-      (still-false l k.front le (all-left L k.front k.rest k.others) front_false)
-      (still-false l k.rest le (all-right L k.front k.rest k.others) rest_false)
+      (still-false l k.front le (All-append_left L k.front k.rest k.others) front_false)
+      (still-false l k.rest le (All-append_right L k.front k.rest k.others) rest_false)
       (subst (λ (c : List ℤ). Contains c z) k.split i)
 
   -- so no settled clause without a doubled literal is a subset of the line

@@ -11,10 +11,10 @@ use Rattle.clause_base.specs.Lit.{var_of, is_positive}
 use Rattle.clause_base.specs.Truth.{lits_of, sign_in, value_in, AreSettled, IsSatisfied, HasTwo}
 use Rattle.clause_base.specs.Clauses.{Clauses, IsClause}
 use Rattle.clause_base.specs.Refutation.{clause_of}
-use Rattle.clause_base.specs.declared.log.Line.{Line}
+use Rattle.clause_base.specs.declared.line.Line.{Line}
 use Rattle.trail.specs.Assignment.{value_of, sign_of}
 use Rattle.propagate.specs.Standing.{Standing}
-use Rattle.clause_words.specs.Truth as words
+use Rattle.placement_clauses.specs.Truth as words
 use Rattle.placer.specs.Answer.{IsModel}
 use Rattle.placer.specs.Progress.{HasLearned}
 use Rattle.placer.proofs.Signs.{sign-none}
@@ -44,13 +44,13 @@ holds-sign values (pos v) h = h
 holds-sign values (negsuc v) h = ap not h
 
 -- values that tell the signs of a board make a true literal true
-holds-there : (values : List Bool) (held : List ℤ) (vars : ℕ) → length values ≡ vars → ((i : ℕ) → i < vars → slice_get values i ≡ Some (unwrap_or (value_in (pos (i + 1)) held) false)) → (z : ℤ) → 0 < var_of z → var_of z ≤ vars → value_in z held ≡ Some true → words.lit_holds (words.value_in values) z ≡ true
+holds-there : (values : List Bool) (held : List ℤ) (vars : ℕ) → length values ≡ vars → ((i : ℕ) → i < vars → slice_get values i ≡ Some (unwrap_or (value_in (pos (i + 1)) held) false)) → (z : ℤ) → 0 < var_of z → var_of z ≤ vars → value_in z held ≡ Some true → words.lit_holds (words.truth_in values) z ≡ true
 holds-there values held vars sized each z above in_range holds =
     let i_lt : var_of z - 1 < vars = omega arith in
     let back : (var_of z - 1) + 1 ≡ var_of z = omega arith in
     let value : value_in (pos ((var_of z - 1) + 1)) held ≡ Some (is_positive z) = pos-value ((var_of z - 1) + 1) held ∙ ap (λ w. sign_in w held) back ∙ true-sign z held holds in
     let there : slice_get values (var_of z - 1) ≡ Some (is_positive z) = each (var_of z - 1) i_lt ∙ ap (λ o. Some (unwrap_or o false)) value in
-    holds-sign (words.value_in values) z (get_or_from_slice_get values (var_of z - 1) (is_positive z) false there)
+    holds-sign (words.truth_in values) z (get_or_from_slice_get values (var_of z - 1) (is_positive z) false there)
 
 -- where nothing is asked for and every variable has a value, the values make every clause true
 pub IsModel-settled : (list : Clauses) (b : Standing) (lines : List Line) (values : List Bool) → HasLearned list b lines → All (IsClause b.list.vars) b.list.clauses → AreSettled (lits_of b.trail.entries) b.list.clauses
@@ -61,7 +61,7 @@ IsModel-settled list b lines values k valid settled full sized each = record { s
     held : List ℤ
     held = lits_of b.trail.entries
 
-    one : (n : ℕ) (c : List ℤ) → slice_get b.list.clauses n ≡ Some c → words.clause_holds (words.value_in values) c ≡ true
+    one : (n : ℕ) (c : List ℤ) → slice_get b.list.clauses n ≡ Some c → words.clause_holds (words.truth_in values) c ≡ true
     one n c there =
         let lt : n < length b.list.clauses = slice_get_within b.list.clauses n c there in
         let v : IsClause b.list.vars c = subst (λ (x : List ℤ). IsClause b.list.vars x) (get_or_from_slice_get b.list.clauses n c c there) (valid n c lt) in
@@ -71,8 +71,8 @@ IsModel-settled list b lines values k valid settled full sized each = record { s
         let is : get_or c h.place h.lit ≡ h.lit = get_or_from_slice_get c h.place h.lit h.lit h.there in
         let above : 0 < var_of h.lit = subst (λ (z : ℤ). 0 < var_of z) is (v.above h.place h.lit place_lt) in
         let in_range : var_of h.lit ≤ b.list.vars = subst (λ (z : ℤ). var_of z ≤ b.list.vars) is (v.in_range h.place h.lit place_lt) in
-        let true_there : words.lit_holds (words.value_in values) h.lit ≡ true = holds-there values (lits_of b.trail.entries) b.list.vars sized each h.lit above in_range h.holds in
-        list_any_at (words.lit_holds (words.value_in values)) c h.place h.lit place_lt (ap (words.lit_holds (words.value_in values)) is ∙ true_there))
+        let true_there : words.lit_holds (words.truth_in values) h.lit ≡ true = holds-there values (lits_of b.trail.entries) b.list.vars sized each h.lit above in_range h.holds in
+        list_any_at (words.lit_holds (words.truth_in values)) c h.place h.lit place_lt (ap (words.lit_holds (words.truth_in values)) is ∙ true_there))
         (λ (h : HasTwo (lits_of b.trail.entries) c).
         let place_lt : h.first < length c = slice_get_within c h.first h.lit h.there in
         let is : get_or c h.first h.lit ≡ h.lit = get_or_from_slice_get c h.first h.lit h.lit h.there in
@@ -81,7 +81,7 @@ IsModel-settled list b lines values k valid settled full sized each = record { s
         absurd (full (var_of h.lit) above in_range (pos-value (var_of h.lit) (lits_of b.trail.entries) ∙ sign-none h.lit (lits_of b.trail.entries) h.unassigned)))
         (settled n c there)
 
-    holds : words.AllHold (words.value_in values) list.clauses
+    holds : words.AllHold (words.truth_in values) list.clauses
     holds i d lt =
         let clauses_are : b.list.clauses ≡ list.clauses ++ map clause_of lines = ap (λ (x : Clauses). x.clauses) k.same in
         let within : i < length (list.clauses ++ map clause_of lines) = omega (arith, length-append list.clauses (map clause_of lines)) in

@@ -11,8 +11,8 @@ use Rattle.clause_base.specs.Truth.{lits_of, AreSettled, IsConflict, Forces}
 use Rattle.clause_base.specs.Clauses.{Clauses}
 use Rattle.clause_base.specs.Refutation.{with_lines}
 use Rattle.clause_base.specs.Spent.{Spent}
-use Rattle.clause_base.specs.declared.clash.Entry.{Entry}
-use Rattle.clause_base.specs.declared.log.Line.{Line}
+use Rattle.clause_base.specs.declared.entry.Entry.{Entry}
+use Rattle.clause_base.specs.declared.line.Line.{Line}
 use Rattle.trail.specs.Assignment.{level_of, step_of, Follows, IsTrail}
 use Rattle.trail.proofs.Levels.{step-decision}
 use Rattle.trail.proofs.Ends.{filter-low}

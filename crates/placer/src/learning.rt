@@ -14,10 +14,12 @@ use io_base::OutOfMemory;
 use propagate::Board;
 use std::alloc::Global;
 
-/// A line that a conflict gives, and the level to go back to before it is learned.
+/// What a conflict teaches.
 #[derive(Drop)]
 pub struct Learnt {
+    /// The line that is learned.
     pub line: Line,
+    /// The level to go back to before it is learned, below that of the conflict.
     pub back: u32,
 }
 
@@ -44,6 +46,7 @@ pub(crate) fn decision_line(
     ensures clause { IfOk result (λ line. line.clause ≡ flat_map negation_of board.now.trail.entries) }
     ensures derived { IfOk result (λ line. Derived board.now.list line) }
 {
+    // A proof learns here that each clause is over the list's variables.
     let _vars = board.list().vars();
     let trail = board.trail();
     let mut clause = Vec::new(alloc);
@@ -61,6 +64,7 @@ pub(crate) fn decision_line(
 
 /// What a conflict above level 0 teaches: a line that is derived from the board's list and new to it. Its
 /// literals are false on the board, one of them at the present level and the others at most at `back`.
+/// `conflict` is the number of the false clause, from 1.
 pub fn analyse(alloc: Global, board: &Board, conflict: u32) -> Result<Learnt, OutOfMemory>
     requires above { 0 < level_of board.now.trail.entries }
     requires conflict { IsConflict (lits_of board.now.trail.entries) board.now.list.clauses conflict }
@@ -69,8 +73,10 @@ pub fn analyse(alloc: Global, board: &Board, conflict: u32) -> Result<Learnt, Ou
     ensures new { IfOk result (λ learnt. IsNew board.now.list.clauses learnt.line.clause) }
     ensures asserts { IfOk result (λ learnt. Asserts board.now.trail.entries learnt.line.clause learnt.back) }
 {
+    // A proof learns here that each clause is over the list's variables.
     let _vars = board.list().vars();
     let trail = board.trail();
+    // A proof learns here that the trail is in order.
     let _ordered = trail.len();
     let back = trail.level() - 1;
     let line = decision_line(alloc, board, conflict)?;
@@ -89,6 +95,7 @@ pub(crate) fn learn_from(
     requires few { length board.old.list.clauses < 2 ^ 32 - 1 }
     ensures { OnOk result (Learns board.old board.new lines.old.items lines.new.items) }
 {
+    // A proof learns here that the trail is in order.
     let _ordered = board.trail().len();
     let learnt = analyse(alloc, board, conflict)?;
     board.back_to(learnt.back);

@@ -3,10 +3,10 @@
 ghost use Rattle.std.specs.Prelude.{◌+◌, ◌<◌, ◌≤◌, ◌^◌, ◌-◌, length, All, IfOk};
 ghost use Rattle.clause_base.specs.Clauses.{IsClause};
 ghost use Rattle.flow_graph.specs.Graph.{graph_of};
-ghost use Rattle.clause_words.specs.Clauses.{clauses_of};
-ghost use Rattle.clause_words.specs.Number.{var_count_of};
+ghost use Rattle.placement_clauses.specs.Clauses.{clauses_of};
+ghost use Rattle.placement_clauses.specs.Number.{var_count_of};
 ghost use Rattle.clause_encode.specs.PlacementList.{list_of};
-ghost use Rattle.placer.specs.Placing.{Stands, IsDecided};
+ghost use Rattle.placer.specs.Placing.{PlacingStands, PlacingDecides};
 
 use crate::searching::{Verdict, search};
 use clause_base::{Clash, Log};
@@ -31,10 +31,11 @@ pub enum Placed {
 pub fn place(alloc: Global, program: &Program, budget: u64) -> Result<Placed, OutOfMemory>
     requires room { length (clauses_of (graph_of program.now)) + budget < 2 ^ 32 - 1 }
     ensures valid { IfOk result (λ _. All (IsClause (list_of (graph_of program.now)).vars) (list_of (graph_of program.now)).clauses) }
-    ensures stands { IfOk result (λ placed. Stands (graph_of program.now) budget placed) }
-    ensures decided { 3 ^ var_count_of (length (graph_of program.now).instrs) ≤ budget → IfOk result IsDecided }
+    ensures stands { IfOk result (λ placed. PlacingStands (graph_of program.now) budget placed) }
+    ensures decided { 3 ^ var_count_of (length (graph_of program.now).instrs) ≤ budget → IfOk result PlacingDecides }
 {
     let list = encode(alloc, program)?;
+    // A proof learns here that each clause is over the list's variables.
     let _vars = list.vars();
     let verdict = search(alloc, list, budget)?;
     match verdict {

@@ -3,11 +3,11 @@
 ghost use Rattle.std.specs.Prelude.{◌+◌, ◌<◌, ◌≤◌, ◌^◌, ◌-◌, length, IfOk};
 ghost use Rattle.placer.specs.Answer.{Stands, IsDecided};
 
+use crate::board_readings::{entries_of, first_unassigned, truths_of};
 use crate::learning::{decision_line, learn_from};
-use crate::readings::{entries_of, first_unassigned, truths_of};
 use clause_base::{Clash, ClauseList, Log};
-use clause_words::Truths;
 use io_base::OutOfMemory;
+use placement_clauses::Truths;
 use propagate::{Board, Settled};
 use std::alloc::Global;
 
@@ -38,6 +38,7 @@ pub fn search(alloc: Global, list: ClauseList, budget: u64) -> Result<Verdict, O
         let settled = board.settle()?;
         match settled {
             Settled::Conflict(number) => {
+                // A proof learns here that the trail is in order, and how long it can be.
                 let _room = board.trail().len();
                 if board.trail().level() == 0 {
                     let line = decision_line(alloc, &board, number)?;
@@ -55,7 +56,9 @@ pub fn search(alloc: Global, list: ClauseList, budget: u64) -> Result<Verdict, O
                 learn_from(alloc, &mut board, &mut lines, number)?;
             }
             Settled::Done => {
+                // A proof learns here that each clause is over the list's variables.
                 let _vars = board.list().vars();
+                // A proof learns here how long the trail can be.
                 let _room = board.trail().len();
                 match first_unassigned(&board) {
                     None => return Ok(Verdict::Model(truths_of(alloc, &board)?)),

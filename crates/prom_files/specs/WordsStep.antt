@@ -1,5 +1,5 @@
--- The step of a command that reads the microwords which were saved under a name: layout, images in rising order, and the
--- words that they join to; or the reply that ends the command (this project's own choice).
+-- The step of a command that reads the microwords which were saved under a name: layout, images in rising order, and
+-- the words that they join to; or the reply that ends the command (this project's own choice).
 use Rattle.std.specs.Prelude.{ℕ, ◌⊎◌, List}
 use Rattle.io_base.specs.Shelf.{ShelfState}
 use Rattle.bpnf.specs.Image.{Image}

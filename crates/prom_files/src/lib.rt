@@ -1,4 +1,4 @@
-//! The files of microwords: the layout and the PROM images of an output, read from a shelf and joined.
+//! The files of microwords: the layout and the PROM images of an output, read from a shelf and joined. Layer: answers.
 //!
 //! `load_words` gives the declaration and the words that the files hold, or stops the command with the
 //! reply that refuses the first file that is not had. Names, limits and replies are this project's own

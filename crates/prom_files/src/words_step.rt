@@ -19,7 +19,9 @@ use std::alloc::Global;
 /// What layout and images hold: the declaration, and the words of all cells.
 #[derive(Drop)]
 pub struct SavedWords {
+    /// What the layout declares.
     pub decl: Decl,
+    /// The words that the images join to.
     pub words: Words,
 }
 

@@ -13,6 +13,7 @@ use Rattle.bpnf.specs.Image.{Image, IsImage}
 use Rattle.field_decl.specs.Declaration.{Declaration}
 use Rattle.prom_split.specs.Parts.{width_of}
 use Rattle.prom_split.specs.Images.{FitWords, FitImages, AreImages, AreJoined, words_in, shown_bit, image_count}
+use Rattle.prom_split.proofs.SplitSteps.{image_with}
 use Rattle.prom_split.proofs.JoinSteps.{word_below}
 
 pub read_back : (decl : Declaration) (words read : List ℕ) (images : List Image) → FitWords decl words → AreImages decl words images → AreJoined decl images read → read ≡ words
@@ -24,15 +25,12 @@ read_back decl words read images fit written joined =
     (All-get_or (λ word. word < 2 ^ width_of decl) words address 0 (omega (arith, fit.count)) fit.fit)
     (λ bit lt. sym (joined.shown address bit below lt) ∙ written.shown address bit below lt))
 
--- images with the same bits shown are the same
-same_images : (xs ys : List Image) → length xs ≡ length ys → ((k : ℕ) (x y : Image) → slice_get xs k ≡ Some x → slice_get ys k ≡ Some y → x ≡ y) → xs ≡ ys
+-- images that are as many and the same one by one are the same
+pub same_images : (xs ys : List Image) → length xs ≡ length ys → ((k : ℕ) (x y : Image) → slice_get xs k ≡ Some x → slice_get ys k ≡ Some y → x ≡ y) → xs ≡ ys
 same_images [] [] e h = refl
 same_images [] (y ∷ ys) e h = absurd (omega arith)
 same_images (x ∷ xs) [] e h = absurd (omega arith)
 same_images (x ∷ xs) (y ∷ ys) e h = ap₂ (λ (a : Image) (rest : List Image). a ∷ rest) (h 0 x y refl refl) (same_images xs ys (omega arith) (λ k a b at here. h (suc k) a b at here))
-
-abbrev image_with : ℕ → List ℕ → Image
-image_with bits words = record { bits = bits; words = words }
 
 -- a bit of an image's word is shown at its place
 at_bit : (bits : ℕ) (images : List Image) (address k i : ℕ) (image : Image) → i < bits → slice_get images k ≡ Some image → shown_bit bits images address (k * bits + i) ≡ bit_at (slice_index image.words address) i

@@ -1,4 +1,4 @@
--- The jump of seven AC bits and the flag functions of four FC bits.
+-- The jump of seven AC bits (data sheet) and the flag functions of four FC bits (this project's own choice).
 use Rattle.std.specs.Prelude.{ℕ, ◌-◌, ◌/◌, ◌%◌, ◌==◌, nat_lt, if◌then◌else◌}
 use Rattle.mcu_jumps.specs.declared.codes.Code.{Code}
 use Rattle.mcu_jumps.specs.declared.codes.Code.TheVariants.{Jcc, Jzr, Jcr, Jfl, Jcf, Jzf, Jpr, Jll, Jce, Jpx, Jrl}

@@ -1,4 +1,4 @@
--- Where the bits of words stand in the saved texts of their images: BPNF texts in canonical form.
+-- Where the bits of words stand in the saved texts of their images: BPNF texts in canonical form (own choice).
 use Rattle.std.specs.Prelude.{ℕ, ◌≡◌, ◌+◌, ◌-◌, ◌*◌, ◌/◌, ◌%◌, List, Some, slice_get, slice_index}
 use Rattle.std.specs.Int.{bit_at}
 use Rattle.bpnf.specs.Frames.{letter}

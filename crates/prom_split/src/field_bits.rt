@@ -39,7 +39,7 @@ pub(crate) fn taken_values(fields: &[Field], number: u128) -> FieldValues
 }
 
 /// The fields at their defaults.
-pub(crate) fn defaults(fields: &[Field]) -> FieldValues
+pub(crate) fn defaults_of(fields: &[Field]) -> FieldValues
     requires sized { list_all is_sized fields.now ≡ true }
     requires narrow { widths fields.now ≤ 78 }
     ensures values { result ≡ defaults_of fields.now }

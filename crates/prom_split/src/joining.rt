@@ -27,7 +27,7 @@ pub enum JoinFault {
     OutOfMemory,
 }
 
-/// The first image whose words have other bits than these.
+// The first image whose words have other bits than these.
 fn first_of_other_width(proms: &[Prom], bits: u8) -> Option<usize>
     ensures some { IfSome result (IsFirstOfOtherWidth bits proms.now) }
     ensures none { IfNone result (HaveBits bits proms.now) }
@@ -40,7 +40,7 @@ fn first_of_other_width(proms: &[Prom], bits: u8) -> Option<usize>
     None
 }
 
-/// The number whose bits the images show at an address, the first image lowest.
+// The number whose bits the images show at an address, the first image lowest.
 fn number_at(proms: &[Prom], bits: u8, address: u16) -> u128
     requires width { IsWidth bits }
     requires bits { HaveBits bits proms.now }
@@ -56,7 +56,7 @@ fn number_at(proms: &[Prom], bits: u8, address: u16) -> u128
     number
 }
 
-/// The microwords that images of the declared number and bits hold.
+// The microwords that images of the declared number and bits hold.
 fn read_words(alloc: Global, proms: &[Prom], decl: &Decl) -> Result<Words, AllocError>
     requires { FitImages (declaration_of decl.now) proms.now }
     ensures { IfOk result (AreJoined (declaration_of decl.now) proms.now) }

@@ -1,5 +1,5 @@
 //! Microwords and PROM images: what a program writes into each cell once it is placed, and how the
-//! words lie in PROMs that stand side by side.
+//! words lie in PROMs that stand side by side. Layer: artefacts.
 //!
 //! `word_of` and `words_of` give the words of a legal placement, by the sum of their parts; `parts`
 //! takes any word apart. `split` writes the words into images bit by bit and `join` reads them back:

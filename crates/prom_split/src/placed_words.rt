@@ -3,7 +3,7 @@ ghost use Rattle.std.specs.Prelude.{◌≡◌, ◌<◌, ◌≤◌, ◌^◌, IfOk
 ghost use Rattle.field_decl.specs.Decls.{declaration_of};
 ghost use Rattle.field_decl.specs.KBits.{gathered_bits, has_kbits};
 ghost use Rattle.flow_graph.specs.Graph.{graph_of};
-ghost use Rattle.flow_graph.specs.Microwords.{IsMicroword};
+ghost use Rattle.flow_graph.specs.Microwords.{FitsDeclaration};
 ghost use Rattle.place_model.specs.Cells.{IsAt};
 ghost use Rattle.place_model.specs.Legal.{IsLegal};
 ghost use Rattle.prom_split.specs.Images.{FitWords};
@@ -11,7 +11,7 @@ ghost use Rattle.prom_split.specs.Microword.{AreWords, IsWordOf, free_jump, free
 ghost use Rattle.prom_split.specs.Parts.{width_of};
 
 use crate::Words;
-use crate::field_bits::defaults;
+use crate::field_bits::defaults_of;
 use crate::word_parts::{common_bits, word_from};
 use cpe_slice::{Fn7, Reg};
 use field_decl::{Decl, gather, kbits_give_masks};
@@ -52,7 +52,7 @@ fn kbits_of(decl: &Decl, mask: u32) -> u32
 // The word of an instruction that becomes this jump.
 #[tactic(auto, unfolding(crate::specs::Parts::word_by))]
 fn instr_word(decl: &Decl, instr: &Instr, jump: Jump) -> u128
-    requires { IsMicroword (declaration_of decl.now) instr.now }
+    requires { FitsDeclaration (declaration_of decl.now) instr.now }
     ensures word { result ≡ word_with (declaration_of decl.now) (Some instr.now) jump }
     ensures below { result < 2 ^ width_of (declaration_of decl.now) }
 {
@@ -72,7 +72,7 @@ fn free_jump(cell: Cell) -> Jump
 }
 
 // Function 6 of group 1 on R0.
-fn free_func() -> Fn7
+fn free_function() -> Fn7
     ensures { result ≡ 0x60 }
 {
     match Fn7::of(6, 1, Reg::R(0)) {
@@ -91,8 +91,13 @@ fn free_word(decl: &Decl, cell: Cell) -> u128
         input: FlagIn::Hcz,
         output: FlagOut::Ff0,
     };
-    let common = common_bits(free_jump(cell), ctl, free_func());
-    word_from(decl, common, 0, defaults(decl.fields.as_slice()).as_slice())
+    let common = common_bits(free_jump(cell), ctl, free_function());
+    word_from(
+        decl,
+        common,
+        0,
+        defaults_of(decl.fields.as_slice()).as_slice(),
+    )
 }
 
 /// The microword of a cell: at a label's cell that of its instruction, with the jump that the
@@ -112,7 +117,7 @@ pub fn word_of(program: &Program, placement: &Placement, cell: Cell) -> u128
     }
 }
 
-/// The microwords of all cells, in the order of their addresses.
+/// The microwords of all cells, in the order of their addresses. It fails only for want of memory.
 pub fn words_of(
     alloc: Global,
     program: &Program,

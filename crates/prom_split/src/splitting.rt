@@ -10,7 +10,7 @@ use field_decl::{Decl, prom_count};
 use io_base::OutOfMemory;
 use std::alloc::{AllocError, Global};
 
-/// The bits of each word from `first` on, as many as `bits`.
+// The bits of each word from `first` on, as many as `bits`.
 fn image_words(alloc: Global, words: &[u128], first: u32, bits: u8) -> Result<Vec<u8>, AllocError>
     requires first { first < 128 }
     requires bits { bits ≤ 8 }
@@ -26,7 +26,7 @@ fn image_words(alloc: Global, words: &[u128], first: u32, bits: u8) -> Result<Ve
 /// The images of microwords that fit the width of the declaration's words.
 ///
 /// With images of w bits, bit b of the word at an address is bit `b mod w` of the word at that address
-/// in image `b div w`. Bits past the width are 0.
+/// in image `b div w` (this project's own choice). Bits past the width are 0. It fails only for want of memory.
 pub fn split(alloc: Global, words: &Words, decl: &Decl) -> Result<Vec<Prom>, OutOfMemory>
     requires { FitWords (declaration_of decl.now) words.now }
     ensures { IfOk result (λ proms. AreImages (declaration_of decl.now) words.now proms.items) }

@@ -14,18 +14,22 @@ use field_decl::{Decl, FieldValues};
 use mcu_chip::FlagCtl;
 use mcu_jumps::Jump;
 
-/// What a microword says: the next address, the flag functions, the function of the slices, the K bits
-/// and the values of the user fields, in the fields' order.
+/// What a microword says. Where each part stands is this project's own choice.
 #[derive(Drop)]
 pub struct WordParts {
+    /// The jump: AC6..AC0 in bits 0 to 6.
     pub jump: Jump,
+    /// The flag functions: FC3..FC0 in bits 7 to 10.
     pub ctl: FlagCtl,
+    /// The function code of the slices: F6..F0 in bits 11 to 17.
     pub func: Fn7,
+    /// The K bits, from bit 18 on, K bit 0 lowest.
     pub kbits: u32,
+    /// The values of the user fields, above the K bits, in the fields' order.
     pub values: FieldValues,
 }
 
-/// The jump of an AC value.
+// The jump of an AC value.
 fn jump_at(ac: u8) -> Jump
     requires { ac < 128 }
     ensures { result ≡ jump_at ac }
@@ -36,7 +40,7 @@ fn jump_at(ac: u8) -> Jump
     }
 }
 
-/// The flag functions of the bits FC3..FC0.
+// The flag functions of the bits FC3..FC0.
 fn ctl_at(fc: u8) -> FlagCtl
     requires { fc < 16 }
     ensures { result ≡ ctl_at fc }
@@ -47,7 +51,7 @@ fn ctl_at(fc: u8) -> FlagCtl
     }
 }
 
-/// The function code of the bits F6..F0.
+// The function code of the bits F6..F0.
 fn func_at(code: u8) -> Fn7
     requires { code < 128 }
     ensures { result ≡ code }

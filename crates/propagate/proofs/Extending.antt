@@ -6,7 +6,7 @@ use Rattle.std.proofs.lemmas.Bool.Decides.{nat_tests}
 use Rattle.std.proofs.lemmas.List.{append-nil, append_assoc, length-append}
 use Rattle.std.proofs.lemmas.List.Elements.{All-nil, All-append, All-push, All-tail, All-weaker, filter-append}
 use Rattle.std.proofs.lemmas.List.Sums.{sum_by-cons, sum_by-append}
-use Rattle.clause_base.specs.declared.clash.Entry.{Entry}
+use Rattle.clause_base.specs.declared.entry.Entry.{Entry}
 use Rattle.trail.specs.Assignment.{step_of, level_of}
 use Rattle.trail.proofs.Levels.{step-implied}
 use Rattle.propagate.specs.Standing.{up_to}

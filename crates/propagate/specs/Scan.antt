@@ -2,16 +2,16 @@
 
 use Rattle.std.specs.Prelude.{ℤ, ◌≡◌, ◌<◌, List, length}
 use Rattle.clause_base.specs.Truth.{lits_of, IsFalse, IsUnit, IsSettled, AreSettled, IsConflict}
-use Rattle.clause_base.specs.declared.clash.Entry.{Entry}
-use Rattle.propagate.specs.declared.clause_status.Status.{Status}
-use Rattle.propagate.specs.declared.clause_status.Status.TheVariants as status
+use Rattle.clause_base.specs.declared.entry.Entry.{Entry}
+use Rattle.propagate.specs.declared.clause_status.ClauseStatus.{ClauseStatus}
+use Rattle.propagate.specs.declared.clause_status.ClauseStatus.TheVariants as status
 use Rattle.propagate.specs.declared.scan.Change.{Change}
 use Rattle.propagate.specs.declared.scan.Change.TheVariants as change
 use Rattle.propagate.specs.declared.scan.Scan.{Scan}
 use Rattle.propagate.specs.declared.scan.Scan.TheVariants as scan
 
 -- what a clause is under these entries
-abbrev pub HasStatus : List Entry → List ℤ → Status → Type 0
+abbrev pub HasStatus : List Entry → List ℤ → ClauseStatus → Type 0
 HasStatus es clause status.Settled = IsSettled (lits_of es) clause
 HasStatus es clause (status.Unit z) = IsUnit (lits_of es) clause z
 HasStatus es clause status.False = IsFalse (lits_of es) clause

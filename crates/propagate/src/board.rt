@@ -4,7 +4,7 @@ ghost use Rattle.std.specs.Prelude.{◌≡◌, ◌<◌, ◌≤◌, ◌+◌, ◌-
 ghost use Rattle.clause_base.specs.Clauses.{IsClause};
 ghost use Rattle.clause_base.specs.Lit.{var_of};
 ghost use Rattle.clause_base.specs.Truth.{lits_of, IsSettled, AreSettled};
-ghost use Rattle.clause_base.specs.declared.clash.Entry.{Entry};
+ghost use Rattle.clause_base.specs.declared.entry.Entry.{Entry};
 ghost use Rattle.trail.specs.Assignment.{level_of, value_of};
 ghost use Rattle.propagate.specs.Standing.{IsSound, up_to};
 ghost use Rattle.propagate.specs.Propagation.{Extends, Ends};
@@ -21,7 +21,7 @@ use trail::Trail;
 pub enum Settled {
     /// Every clause is true or has two unassigned literals.
     Done,
-    /// The clause of this number is false.
+    /// The clause of this number, from 1, is false.
     Conflict(u32),
 }
 
@@ -68,7 +68,7 @@ impl Board {
     }
 
     /// Implies what unit clauses force, at the present level, until every clause is settled or one is false.
-    /// After a refusal the trail is the old one and further implied literals.
+    /// After want of memory the trail is the old one and further implied literals.
     pub fn settle(&mut self) -> Result<Settled, OutOfMemory>
         ensures list { self.new.list ≡ self.old.list }
         ensures vars { self.new.trail.vars ≡ self.old.trail.vars }
@@ -78,6 +78,7 @@ impl Board {
         ensures ends { IfOk result (λ settled. Ends self.new settled) }
     {
         'scans: loop {
+            // A proof learns here that the trail has at most one entry more than there are variables.
             let _room = self.trail.len();
             match scan_all(&self.list, &mut self.trail) {
                 Scan::Quiet => return Ok(Settled::Done),
@@ -95,6 +96,7 @@ impl Board {
         ensures list { self.new.list ≡ self.old.list }
         ensures trail { let decision : Entry = record { lit = lit; level = level_of self.old.trail.entries + 1; reason = 0 } in self.new.trail ≡ record { vars = self.old.trail.vars; entries = self.old.trail.entries ++ decision ∷ [] } }
     {
+        // A proof learns here that the trail is in order.
         let _ordered = self.trail.len();
         self.trail.decide(lit);
     }
@@ -107,6 +109,7 @@ impl Board {
         ensures entries { self.new.trail.entries ≡ up_to level self.old.trail.entries }
         ensures level { level_of self.new.trail.entries ≡ level }
     {
+        // A proof learns here that the trail is in order.
         let _ordered = self.trail.len();
         self.trail.back_to(level);
     }

@@ -1,8 +1,9 @@
-//! Unit propagation over a clause list.
+//! Unit propagation over a clause list. Layer: decision.
 //!
 //! A board holds a list of clauses and the literals that are assigned over it. It keeps that each implied
 //! literal is the unassigned one of its reason, which was unit before it, and that propagation was complete
-//! at every level below the present one: no decision is made while a clause is unit or false.
+//! at every level below the present one: no decision is made while a clause is unit or false. `settle`
+//! propagates; it, `decide`, `back_to` and `learn` keep these facts.
 #![tactic(auto)]
 
 mod board;

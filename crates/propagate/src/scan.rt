@@ -7,7 +7,7 @@ ghost use Rattle.propagate.specs.Standing.{AreForced};
 ghost use Rattle.propagate.specs.Propagation.{Extends};
 ghost use Rattle.propagate.specs.Scan.{Changes, Scans};
 
-use crate::clause_status::{Status, status_of};
+use crate::clause_status::{ClauseStatus, status_of};
 use clause_base::{ClauseList, Lit};
 use trail::Trail;
 
@@ -44,12 +44,12 @@ fn imply_unit(list: &ClauseList, trail: &mut Trail, number: u32, clause: &[Lit])
     ensures told { Changes trail.old.entries trail.new.entries clause.now result }
 {
     match status_of(trail, clause) {
-        Status::Settled => Change::Quiet,
-        Status::Unit(lit) => {
+        ClauseStatus::Settled => Change::Quiet,
+        ClauseStatus::Unit(lit) => {
             trail.imply(lit, number);
             Change::Implied
         }
-        Status::False => Change::False,
+        ClauseStatus::False => Change::False,
     }
 }
 

@@ -6,7 +6,7 @@ use Rattle.std.proofs.lemmas.List.Sums.{prefix_len-le-length}
 use Rattle.ref_text.specs.Form.{form}
 use Rattle.ref_text.specs.Fault.{text_fault, line_of}
 use Rattle.ref_text.specs.Reading.{Reader, with_line, with_bytes, judged, at_end, told, lf_at, fed_good, after_good, fed_of, after_feed}
-use Rattle.ref_text.specs.declared.events.Why.{Why}
+use Rattle.ref_text.specs.declared.why.Why.{Why}
 use Rattle.ref_text.specs.declared.events.Event.{Event}
 use Rattle.ref_text.specs.declared.events.Event.TheVariants as event
 use Rattle.ref_text.specs.declared.events.Fed.{Fed}

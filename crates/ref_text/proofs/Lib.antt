@@ -1,5 +1,4 @@
 pub mod TextLemmas
-pub mod DigitValues
 pub mod WordLemmas
 pub mod MarkLemmas
 pub mod RightLemmas

@@ -3,7 +3,7 @@ use Rattle.std.proofs.Common.{◌≡◌, ◌≢◌, ℕ, zero, suc, ℤ, pos, ne
 use Rattle.std.specs.Prelude.{◌&&◌, ◌||◌, All, nat_le}
 use Rattle.std.specs.Bool.{if◌then◌else◌}
 use Rattle.std.specs.List.{list_any}
-use Rattle.std.proofs.lemmas.Bool.{cases_Bool, and_parts}
+use Rattle.std.proofs.lemmas.Bool.{cases_Bool, and_parts, not-true, or_from}
 use Rattle.std.proofs.lemmas.Bool.Decides.{nat_tests}
 use Rattle.std.proofs.lemmas.List.{take_more, map-append, get_or-set_same, get_or-set_other}
 use Rattle.std.proofs.lemmas.List.Folds.{list_any-append, list_any_more}
@@ -32,14 +32,6 @@ not_or true b h = cc
 not_or false true h = cc
 not_or false false h = (refl, refl)
 
-not_true : (a : Bool) → not a ≡ true → a ≡ false
-not_true true h = cc
-not_true false h = refl
-
-or_both : (a b : Bool) → a ≡ false → b ≡ false → (a || b) ≡ false
-or_both true b h k = cc
-or_both false b h k = k
-
 or_mid : (a b c : Bool) → b ≡ true → (a || (b || c)) ≡ true
 or_mid true b c h = refl
 or_mid false true c h = refl
@@ -63,7 +55,7 @@ drop_other : (a b c : Bool) → b ≡ false → (a && not (b || c)) ≡ false �
 drop_other a true c h k = cc
 drop_other a false c h k = k
 
-all_three : (a b c : Bool) → a ≡ true → b ≡ true → c ≡ true → (a && b && c) ≡ true
+pub all_three : (a b c : Bool) → a ≡ true → b ≡ true → c ≡ true → (a && b && c) ≡ true
 all_three true true true h k l = refl
 all_three true true false h k l = cc
 all_three true false c h k l = cc
@@ -90,7 +82,7 @@ are_literals_push vars (y ∷ ys) z h free =
     let g = not_or (var_of y == var_of z) (list_any (λ x. var_of x == var_of z) ys) f.1 in
     let other : (var_of z == var_of y) ≡ false = other_way (var_of y) (var_of z) false g.0 in
     let none : list_any (λ x. var_of x == var_of y) (ys ++ z ∷ []) ≡ false =
-    list_any-append (λ x. var_of x == var_of y) ys (z ∷ []) ∙ or_both _ _ (not_true _ q.1) (or_both _ false other refl) in
+    list_any-append (λ x. var_of x == var_of y) ys (z ∷ []) ∙ or_from _ _ (not-true _ q.1) (or_from _ false other refl) in
     all_three _ _ _ q.0 (ap not none) (are_literals_push vars ys z p.1 (both_true _ _ f.0 g.1))
 
 -- a literal of no variable of the list, or of one that was met

@@ -6,7 +6,7 @@ use Rattle.std.specs.List.{list_all}
 use Rattle.std.specs.Char.{is_ascii_digit}
 use Rattle.std.specs.Fmt.{signed_decimal}
 use Rattle.std.specs.Str.Parse.{digits_value}
-use Rattle.std.proofs.lemmas.Bool.{and_parts}
+use Rattle.std.proofs.lemmas.Bool.{and_parts, and_from}
 use Rattle.std.proofs.lemmas.Bool.Decides.{nat_tests}
 use Rattle.std.proofs.lemmas.List.Elements.{All-cons}
 use Rattle.std.proofs.lemmas.Fmt.{decimal_digit, decimal_nonempty, first_decimal, digits_decimal, digits_value-decimal}
@@ -28,10 +28,6 @@ decimal_digits n small = digits_decimal own n (omega arith)
 pub decimal_value : (n : ℕ) → n < 2 ^ 32 → digits_value 10 (decimal n) ≡ n
 decimal_value n small = digits_value-decimal own n (omega arith)
 
-both : (a b : Bool) → a ≡ true → b ≡ true → (a && b) ≡ true
-both true b h k = k
-both false b h k = cc
-
 led : (ds : List ℕ) → 48 < get_or ds 0 0 → has_no_leading_zero ds ≡ true
 led [] h = absurd (omega arith)
 led (d ∷ []) h = refl
@@ -42,13 +38,13 @@ decimal_led zero small = ap has_no_leading_zero (decimal_digit 0 (omega arith))
 decimal_led (suc n) small = led (decimal (suc n)) (first_decimal (suc n) (omega arith) (omega arith))
 
 pub decimal_numeral : (n : ℕ) → n < 2 ^ 32 → is_numeral (decimal n) ≡ true
-decimal_numeral n small = both (has_no_leading_zero (decimal n)) (list_all is_ascii_digit (decimal n)) (decimal_led n small) (decimal_digits n small)
+decimal_numeral n small = and_from (has_no_leading_zero (decimal n)) (list_all is_ascii_digit (decimal n)) (decimal_led n small) (decimal_digits n small)
 
 -- the number of a word of digits
 number_is : (word : List ℕ) (n : ℕ) → is_numeral word ≡ true → digits_value 10 word ≡ n → n < 2 ^ 32 → number_of word ≡ Some n
 number_is word n numeral value small =
     let fits : nat_lt (digits_value 10 word) (2 ^ 32) ≡ true = rw value (grind (arith, nat_tests)) in
-    ap (λ (b : Bool). if b then Some (digits_value 10 word) else None) (both _ _ numeral fits) ∙ ap Some value
+    ap (λ (b : Bool). if b then Some (digits_value 10 word) else None) (and_from _ _ numeral fits) ∙ ap Some value
 
 pub decimal_number : (n : ℕ) → n < 2 ^ 32 → number_of (decimal n) ≡ Some n
 decimal_number n small = number_is (decimal n) n (decimal_numeral n small) (decimal_value n small) small

@@ -10,7 +10,7 @@ use Rattle.ref_text.specs.Form.{form}
 use Rattle.ref_text.specs.Fault.{text_fault, line_of, is_empty}
 use Rattle.ref_text.specs.Reading.{Reader, first, with_line, with_bad, with_bytes, judged, at_end, told, lf_at, fed_good, after_good, fed_of, after_feed}
 use Rattle.ref_text.specs.Pieces.{on, after, events_at, events, brought, IsFed, or_further, lines_bring}
-use Rattle.ref_text.specs.declared.events.Why.{Why}
+use Rattle.ref_text.specs.declared.why.Why.{Why}
 use Rattle.ref_text.specs.declared.events.Event.{Event}
 use Rattle.ref_text.specs.declared.events.Event.TheVariants as event
 use Rattle.ref_text.specs.declared.events.Fed.{Fed}

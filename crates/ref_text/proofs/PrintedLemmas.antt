@@ -9,12 +9,13 @@ use Rattle.std.proofs.lemmas.List.{append-nil}
 use Rattle.std.proofs.lemmas.List.Elements.{All-append, All-cons, All-nil, All-head, All-tail}
 use Rattle.std.proofs.lemmas.List.Splits.{slice_split_at, slice_split_none}
 use Rattle.clause_base.specs.Lit.{var_of}
-use Rattle.clause_base.specs.declared.log.Line.{Line}
+use Rattle.clause_base.specs.declared.line.Line.{Line}
 use Rattle.ref_text.specs.declared.words.Signed.{Signed}
 use Rattle.ref_text.specs.Words.{words_of, value_of, with_value, values_of}
 use Rattle.ref_text.specs.Form.{is_zero, is_plain, literal_of, size_of, has_zero, Written, line_in, written_in, form}
 use Rattle.ref_text.specs.Text.{number_word, literal_word, line_text}
 use Rattle.ref_text.specs.Printed.{CanBeRead, SaysLine}
+use Rattle.ref_text.proofs.WordLemmas.{onto, onto_none}
 use Rattle.ref_text.proofs.NumeralLemmas.{decimal_read, signed_of, literal_read, decimal_pass, literal_pass}
 
 -- the values of a text of words
@@ -40,22 +41,13 @@ literal_first z rest small = word_first (signed_decimal z) rest (signed_of z) (l
 abbrev unsigned : ℕ → Signed
 unsigned n = record { minus = false; size = n }
 
--- values before those of a rest
-abbrev onto : List Signed → Option (List Signed) → Option (List Signed)
-onto values None = None
-onto values (Some more) = Some (values ++ more)
-
-onto_nil : (o : Option (List Signed)) → o ≡ onto [] o
-onto_nil None = refl
-onto_nil (Some values) = refl
-
 onto_cons : (value : Signed) (values : List Signed) (o : Option (List Signed)) → with_value (Some value) (onto values o) ≡ onto (value ∷ values) o
 onto_cons value values None = refl
 onto_cons value values (Some more) = refl
 
 literals_first : (zs : List ℤ) (rest : List ℕ) → All (λ z. (0 < var_of z) × (var_of z < 2 ^ 32)) zs →
     read (flat_map literal_word zs ++ rest) ≡ onto (map signed_of zs) (read rest)
-literals_first [] rest all = onto_nil (read rest)
+literals_first [] rest all = onto_none (read rest)
 literals_first (z ∷ zs) rest all =
     ap read (append_assoc (literal_word z) (flat_map literal_word zs) rest)
     ∙ literal_first z (flat_map literal_word zs ++ rest) (all 0 z (omega arith)).1
@@ -64,7 +56,7 @@ literals_first (z ∷ zs) rest all =
 
 numbers_first : (ns : List ℕ) (rest : List ℕ) → All (λ n. (0 < n) × (n < 2 ^ 32)) ns →
     read (flat_map number_word ns ++ rest) ≡ onto (map unsigned ns) (read rest)
-numbers_first [] rest all = onto_nil (read rest)
+numbers_first [] rest all = onto_none (read rest)
 numbers_first (n ∷ ns) rest all =
     ap read (append_assoc (number_word n) (flat_map number_word ns) rest)
     ∙ number_first n (flat_map number_word ns ++ rest) (all 0 n (omega arith)).1

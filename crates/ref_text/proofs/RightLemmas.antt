@@ -3,14 +3,14 @@ use Rattle.std.proofs.Common.{◌≡◌, ◌≢◌, ℕ, zero, suc, ℤ, ◌+◌
 use Rattle.std.specs.Prelude.{◌&&◌, ◌||◌, All, AllPairs, nat_le, nat_lt}
 use Rattle.std.specs.Bool.{if◌then◌else◌}
 use Rattle.std.specs.List.{list_any, list_all, position_or_len, before_first, after_first}
-use Rattle.std.proofs.lemmas.Bool.{cases_Bool, and_parts}
+use Rattle.std.proofs.lemmas.Bool.{cases_Bool, and_parts, not-true}
 use Rattle.std.proofs.lemmas.Bool.Decides.{nat_tests}
 use Rattle.std.proofs.lemmas.List.Sums.{prefix_len_passes}
 use Rattle.clause_base.specs.Lit.{var_of}
-use Rattle.clause_base.specs.declared.log.Line.{Line}
+use Rattle.clause_base.specs.declared.line.Line.{Line}
 use Rattle.ref_text.specs.declared.words.Signed.{Signed}
-use Rattle.ref_text.specs.declared.events.Why.{Why}
-use Rattle.ref_text.specs.declared.events.Why.TheVariants as why
+use Rattle.ref_text.specs.declared.why.Why.{Why}
+use Rattle.ref_text.specs.declared.why.Why.TheVariants as why
 use Rattle.ref_text.specs.Words.{values_of, words_of}
 use Rattle.ref_text.specs.Form.{Written, is_zero, size_of, line_in, written_in, form}
 use Rattle.ref_text.specs.Fault.{is_variable, are_literals, are_hints, written_fault, text_fault, line_of}
@@ -28,12 +28,8 @@ firsts_above (v ∷ values) (suc n) h (suc k) d lt = firsts_above values n (λ i
 sizes_before : (values : List Signed) → All (λ hint. 0 < hint) (map size_of (before_first is_zero values))
 sizes_before values = firsts_above values (position_or_len is_zero values) (λ k d lt there.
     let passes = prefix_len_passes (λ x. not (is_zero x)) values k d lt in
-    let no : is_zero (get_or values k d) ≡ false = not_is _ passes in
+    let no : is_zero (get_or values k d) ≡ false = not-true _ passes in
     grind (arith, nat_tests))
-  where
-    not_is : (b : Bool) → not b ≡ true → b ≡ false
-    not_is true h = cc
-    not_is false h = refl
 
 -- a test that was passed
 if_some : {X : Type 0} (b : Bool) (x y : X) → (if b then Some x else None) ≡ Some y → x ≡ y

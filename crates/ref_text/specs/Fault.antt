@@ -3,10 +3,10 @@
 use Rattle.std.specs.Prelude.{ℕ, ℤ, ◌<◌, ◌==◌, ◌&&◌, not, Bool, true, false, if◌then◌else◌, nat_lt, nat_le, List, [], ◌∷◌, length, Option, Some, None}
 use Rattle.std.specs.List.{list_all, list_any}
 use Rattle.clause_base.specs.Lit.{var_of}
-use Rattle.clause_base.specs.declared.log.Line.{Line}
+use Rattle.clause_base.specs.declared.line.Line.{Line}
 use Rattle.ref_text.specs.Form.{Written, form}
-use Rattle.ref_text.specs.declared.events.Why.{Why}
-use Rattle.ref_text.specs.declared.events.Why.TheVariants as why
+use Rattle.ref_text.specs.declared.why.Why.{Why}
+use Rattle.ref_text.specs.declared.why.Why.TheVariants as why
 
 -- a variable of the list
 abbrev pub is_variable : ℕ → ℕ → Bool

@@ -5,6 +5,7 @@ use Rattle.ref_text.specs.Marks.{AreClear}
 use Rattle.ref_text.specs.Reading.{Reader}
 use Rattle.ref_text.specs.declared.line_reader.LineReader.TheInside.{Inside}
 
+-- what a contract sees of the fields of a reader
 abbrev pub reader_of : Inside → Reader
 reader_of l = record {
   vars = l.vars;
@@ -17,6 +18,7 @@ reader_of l = record {
   failed = l.failed;
 }
 
+-- what the fields keep: the numbers fit, there is a mark for each variable, and between lines none is marked
 pub record IsReader (l : Inside) : Type 0 where
   pub few_vars : l.vars < 2 ^ 31
   pub numbered : l.number ≤ 2 ^ 32

@@ -3,7 +3,7 @@
 
 use Rattle.std.specs.Prelude.{ℕ, ℤ, pos, neg_ℤ, ◌==◌, ◌&&◌, not, Bool, true, false, if◌then◌else◌, nat_lt, List, [], ◌∷◌, length, map, Option, Some, None}
 use Rattle.std.specs.List.{list_all, position_or_len, before_first, after_first}
-use Rattle.clause_base.specs.declared.log.Line.{Line}
+use Rattle.clause_base.specs.declared.line.Line.{Line}
 use Rattle.ref_text.specs.declared.words.Signed.{Signed}
 use Rattle.ref_text.specs.Words.{words_of, values_of}
 
@@ -12,9 +12,11 @@ pub record Written : Type 0 where
   pub number : ℕ
   pub line : Line
 
+-- the value is 0
 abbrev pub is_zero : Signed → Bool
 is_zero value = value.size == 0
 
+-- no minus sign stands before it
 abbrev pub is_plain : Signed → Bool
 is_plain value = not value.minus
 
@@ -22,9 +24,11 @@ is_plain value = not value.minus
 abbrev pub literal_of : Signed → ℤ
 literal_of value = if value.minus then neg_ℤ (pos value.size) else pos value.size
 
+-- the number without its sign
 abbrev pub size_of : Signed → ℕ
 size_of value = value.size
 
+-- a 0 is among the values
 abbrev pub has_zero : List Signed → Bool
 has_zero values = nat_lt (position_or_len is_zero values) (length values)
 

@@ -6,7 +6,7 @@ use Rattle.std.specs.List.{slice_split}
 use Rattle.ref_text.specs.Form.{form}
 use Rattle.ref_text.specs.Fault.{text_fault, line_of, is_empty}
 use Rattle.ref_text.specs.Reading.{Reader, with_bytes, at_end, told}
-use Rattle.ref_text.specs.declared.events.Why.{Why}
+use Rattle.ref_text.specs.declared.why.Why.{Why}
 use Rattle.ref_text.specs.declared.events.Event.{Event}
 use Rattle.ref_text.specs.declared.events.Event.TheVariants as event
 use Rattle.ref_text.specs.declared.events.Fed.{Fed}
@@ -21,6 +21,7 @@ unfoldable pub after : Reader → List ℕ → Reader
 after r [] = r
 after r (b ∷ bs) = after (on r.bad r b) bs
 
+-- what one more byte brings, and what the further bytes bring
 abbrev pub events_at : Option Why → Bool → Reader → List Event → List Event
 events_at (Some why) lf r further = []
 events_at None true r further = told r.count (at_end r).bad ∷ further
@@ -41,6 +42,7 @@ pub record IsFed (old : Reader) (piece : List ℕ) (new : Reader) (fed : Fed) : 
   pub reader : new ≡ after old (take fed.used piece)
   pub tells : old.bad ≡ None → events old (take fed.used piece) ≡ brought fed.event
 
+-- a refusal, which is the last that is told; or a line, and what the further lines bring
 abbrev pub or_further : ℕ → Option Why → List Event → List Event
 or_further count None further = event.Line ∷ further
 or_further count (Some why) further = event.Bad (count + 1) why ∷ []

@@ -2,7 +2,7 @@
 
 use Rattle.std.specs.Prelude.{ℕ, ◌<◌, ◌^◌, ◌≡◌, ◌==◌, false, List, [], ◌∷◌, ◌++◌, Some, All}
 use Rattle.clause_base.specs.Lit.{var_of}
-use Rattle.clause_base.specs.declared.log.Line.{Line}
+use Rattle.clause_base.specs.declared.line.Line.{Line}
 use Rattle.ref_text.specs.Form.{form}
 
 -- numbers that a text can hold: below 2^32, and no literal and no hint is 0

@@ -2,11 +2,11 @@
 
 use Rattle.std.specs.Prelude.{ℕ, ◌+◌, ◌-◌, ◌==◌, not, Bool, true, false, if◌then◌else◌, List, [], ◌∷◌, ◌++◌, length, take, drop, Option, Some, None}
 use Rattle.std.specs.List.{position_or_len}
-use Rattle.clause_base.specs.declared.log.Line.{Line}
+use Rattle.clause_base.specs.declared.line.Line.{Line}
 use Rattle.ref_text.specs.Form.{form}
 use Rattle.ref_text.specs.Fault.{text_fault, line_of, is_empty}
-use Rattle.ref_text.specs.declared.events.Why.{Why}
-use Rattle.ref_text.specs.declared.events.Why.TheVariants as why
+use Rattle.ref_text.specs.declared.why.Why.{Why}
+use Rattle.ref_text.specs.declared.why.Why.TheVariants as why
 use Rattle.ref_text.specs.declared.events.Event.{Event}
 use Rattle.ref_text.specs.declared.events.Event.TheVariants as event
 use Rattle.ref_text.specs.declared.events.Fed.{Fed}
@@ -82,6 +82,7 @@ with_bytes r bytes = record {
   failed = r.failed;
 }
 
+-- after a line that is read or refused
 abbrev pub judged : Reader → Option Why → Reader
 judged r None = with_line r (line_of (form r.begun))
 judged r (Some why) = with_bad r why
@@ -105,6 +106,7 @@ fed_good r piece =
     if lf_at piece == length piece then record { used = length piece; event = event.More }
     else record { used = lf_at piece + 1; event = told r.count (at_end (with_bytes r (take (lf_at piece) piece))).bad }
 
+-- the reader after a piece
 abbrev pub after_good : Reader → List ℕ → Reader
 after_good r piece =
     if lf_at piece == length piece then with_bytes r piece

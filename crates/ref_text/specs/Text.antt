@@ -3,8 +3,8 @@
 
 use Rattle.std.specs.Prelude.{ℕ, ℤ, ◌+◌, ◌==◌, if◌then◌else◌, List, [], ◌∷◌, ◌++◌, codes, decimal, flat_map}
 use Rattle.std.specs.Fmt.{signed_decimal}
-use Rattle.clause_base.specs.declared.log.Line.{Line}
-use Rattle.clause_base.specs.declared.clash.Entry.{Entry}
+use Rattle.clause_base.specs.declared.line.Line.{Line}
+use Rattle.clause_base.specs.declared.entry.Entry.{Entry}
 use Rattle.clause_base.specs.declared.clash.Clash.{Clash}
 
 -- a number, with the space behind it

@@ -40,6 +40,7 @@ abbrev pub value_of : List ℕ → Option Signed
 value_of [] = None
 value_of (b ∷ bs) = if b == 45 then negated (number_of bs) else plain (number_of (b ∷ bs))
 
+-- a value before further ones, where each word has one
 abbrev pub with_value : Option Signed → Option (List Signed) → Option (List Signed)
 with_value None values = None
 with_value (Some value) None = None

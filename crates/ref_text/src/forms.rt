@@ -13,13 +13,16 @@ use std::alloc::AllocError;
 /// A line of the form, cut out of the values of its words.
 #[derive(Clone, Copy)]
 pub(crate) struct CutLine<'a> {
+    /// The first value.
     pub number: u32,
+    /// The values between it and the first 0 behind it.
     pub literals: &'a [Signed],
+    /// The values between the two zeros.
     pub hints: &'a [Signed],
 }
 
-#[tactic(auto, unfolding(crate::specs::Words::values_of))]
 /// Replaces `values` by what the words of a line stand for; false where a word stands for nothing.
+#[tactic(auto, unfolding(crate::specs::Words::values_of))]
 pub(crate) fn read_values(line: &[u8], values: &mut Vec<Signed>) -> Result<bool, AllocError>
     ensures { IfOk result (λ all. values_of (words_of line.now) ≡ if_all all values.new.items) }
 {

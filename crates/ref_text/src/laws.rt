@@ -1,9 +1,9 @@
-//! Laws of the reader: where the pieces of a text are cut makes no difference, its whole lines decide what is told, and a
-//! printed line is read as itself.
+//! Laws of the reader: where the pieces of a text are cut makes no difference, its whole lines decide what is told,
+//! and a printed line is read as itself.
 
 ghost use Rattle.std.specs.Prelude.{ℕ, ◌≡◌, ◌==◌, ◌++◌, List, false};
 ghost use Rattle.std.specs.List.{slice_split};
-ghost use Rattle.clause_base.specs.declared.log.Line.{Line};
+ghost use Rattle.clause_base.specs.declared.line.Line.{Line};
 ghost use Rattle.ref_text.specs.Text.{line_text};
 ghost use Rattle.ref_text.specs.Reading.{Reader, first};
 ghost use Rattle.ref_text.specs.Pieces.{after, events, lines_bring};

@@ -1,4 +1,4 @@
-//! The text of a refutation: printing its lines and a clash, and reading lines back in pieces.
+//! The text of a refutation: printing its lines and a clash, and reading lines back in pieces. Layer: decision.
 //!
 //! Printed texts are exact. A line's form is said of its whole bytes: its number, literals, 0, hints, 0. A reader that
 //! is fed a text tells each line, or the first that its text alone refuses, wherever the pieces are cut. Whether
@@ -11,11 +11,13 @@ pub mod laws;
 mod line_reader;
 mod literals;
 mod printing;
+mod why;
 mod words;
 
-pub use events::{Event, Fed, Why};
+pub use events::{Event, Fed};
 pub use line_reader::LineReader;
 pub use printing::{print_clash, print_line};
+pub use why::Why;
 
 #[cfg(test)]
 mod tests;

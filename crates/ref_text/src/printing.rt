@@ -10,7 +10,7 @@ use io_base::OutOfMemory;
 use itoa::Buffer;
 use std::alloc::AllocError;
 
-/// Adds the text of a line of that number. After a refusal `out` is as before.
+/// Adds the text of a line of that number. After want of memory `out` is as before. The form is after LRAT.
 pub fn print_line(number: u32, line: &Line, out: &mut Vec<u8>) -> Result<(), OutOfMemory>
     ensures ok { OnOk result (out.new.items ≡ out.old.items ++ line_text number line.now) }
     ensures err { OnErr result (out.new.items ≡ out.old.items) }
@@ -25,7 +25,7 @@ pub fn print_line(number: u32, line: &Line, out: &mut Vec<u8>) -> Result<(), Out
     }
 }
 
-/// Adds the text of a clash. After a refusal `out` is as before.
+/// Adds the text of a clash. After want of memory `out` is as before. The form is after LRAT.
 pub fn print_clash(clash: &Clash, out: &mut Vec<u8>) -> Result<(), OutOfMemory>
     ensures ok { OnOk result (out.new.items ≡ out.old.items ++ clash_text clash.now) }
     ensures err { OnErr result (out.new.items ≡ out.old.items) }

@@ -10,7 +10,9 @@ ghost use Rattle.ref_text.specs.Words.{has_no_leading_zero, is_numeral, number_o
 /// A number that may stand behind a minus sign.
 #[derive(Clone, Copy, PartialEq, Eq, Debug)]
 pub(crate) struct Signed {
+    /// Whether the minus sign is there.
     pub minus: bool,
+    /// The number without it.
     pub size: u32,
 }
 
@@ -43,7 +45,7 @@ fn negated(number: Option<u32>) -> Option<Signed>
     }
 }
 
-/// The number that a word of digits stands for: decimal without leading zeros, and below 2^32.
+// The number that a word of digits stands for: decimal without leading zeros, and below 2^32.
 fn number_of(word: &[u8]) -> Option<u32>
     ensures { result ≡ number_of word.now }
 {
@@ -76,7 +78,7 @@ fn has_no_leading_zero(word: &[u8]) -> bool
     }
 }
 
-/// The number that the digits stand for, or None where it is 2^32 or more.
+// The number that the digits stand for, or None where it is 2^32 or more.
 fn digits_value(digits: &[u8]) -> Option<u32>
     requires { IsTrue (list_all is_ascii_digit digits.now) }
     ensures { SomeIff result (digits_value 10 digits.now < 2 ^ 32) (digits_value 10 digits.now) }
@@ -98,7 +100,7 @@ fn digit(byte: u8) -> u32
     (byte - b'0') as u32
 }
 
-/// The number with one digit more, or None where it is 2^32 or more.
+// The number with one digit more, or None where it is 2^32 or more.
 fn with_digit(value: u32, digit: u32) -> Option<u32>
     ensures { SomeIff result (value * 10 + digit < 2 ^ 32) (value * 10 + digit) }
 {

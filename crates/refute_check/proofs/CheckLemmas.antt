@@ -1,33 +1,30 @@
 -- How far the lines of a text go, line by line.
 use Rattle.std.proofs.Common.{◌≡◌, ℕ, ℤ, ◌+◌, ◌<◌, ◌==◌, Bool, true, false, not, List, [], ◌∷◌, ◌++◌, length, take, drop, drop-drop, Option, Some, None, refl, sym, ap, ◌∙◌, arith}
+use Rattle.std.proofs.lemmas.Bool.{not-true}
 use Rattle.std.proofs.lemmas.Bool.Decides.{nat_tests}
 use Rattle.std.proofs.lemmas.List.Elements.{All-push}
 use Rattle.std.proofs.lemmas.List.Splits.{slice_split_none, slice_split_first, length-slice_split}
 use Rattle.std.proofs.lemmas.List.Sums.{prefix_len_passes}
 use Rattle.clause_base.specs.Clauses.{Clauses}
-use Rattle.clause_base.specs.declared.log.Line.{Line}
+use Rattle.clause_base.specs.declared.line.Line.{Line}
 use Rattle.clause_base.specs.Refutation.{Derived}
-use Rattle.clause_words.specs.Truth.{clause_holds, AllHold}
+use Rattle.placement_clauses.specs.Truth.{clause_holds, AllHold}
+use Rattle.clause_encode.proofs.DerivedLemmas.{derived_holds}
 use Rattle.ref_text.specs.Form.{form}
 use Rattle.ref_text.specs.Fault.{text_fault, line_of, is_empty}
 use Rattle.ref_text.specs.Reading.{lf_at}
-use Rattle.ref_text.specs.declared.events.Why.{Why}
+use Rattle.ref_text.specs.declared.why.Why.{Why}
 use Rattle.ref_text.proofs.RightLemmas.{text_right}
 use Rattle.refute_check.specs.Check.{lines_of, or_hints, line_fault, with_line, or_further, progress, verdict_of, check}
 use Rattle.refute_check.specs.declared.checked.Checked.TheVariants as checked
 use Rattle.refute_check.proofs.DeriveLemmas.{tells}
-use Rattle.refute_check.proofs.SoundLemmas.{derived_holds}
-
-not_is : (a : Bool) → not a ≡ true → a ≡ false
-not_is true h = cc
-not_is false h = refl
 
 -- no whole line is left
 pub progress_end : (list : Clauses) (count : ℕ) (over : Bool) (rest : List ℕ) (begun : Bool) → lf_at rest ≡ length rest → begun ≡ not (length rest == 0) →
     progress list count over (lines_of rest) ≡ record { count = count; over = over; bad = None; begun = begun }
 unfolding progress
 progress_end list count over rest begun all is =
-    let whole : lines_of rest ≡ rest ∷ [] = slice_split_none (λ b. b == 10) rest (λ k d lt. not_is _ (prefix_len_passes (λ b. not (b == 10)) rest k d (omega (arith, all, lt)))) in
+    let whole : lines_of rest ≡ rest ∷ [] = slice_split_none (λ b. b == 10) rest (λ k d lt. not-true _ (prefix_len_passes (λ b. not (b == 10)) rest k d (omega (arith, all, lt)))) in
     ap (progress list count over) whole ∙ ap (λ (b : Bool). record { count = count; over = over; bad = None; begun = b }) (sym is)
 
 -- a whole line is left

@@ -7,9 +7,9 @@ use Rattle.std.proofs.lemmas.List.{get_or-take, length-take-le, take_more, take_
 use Rattle.clause_base.specs.Lit.{var_of, is_positive}
 use Rattle.clause_base.specs.Clauses.{Clauses}
 use Rattle.clause_base.specs.Truth.{sign_in, value_in}
-use Rattle.clause_base.specs.declared.log.Line.{Line}
-use Rattle.clause_base.specs.Refutation.{Derived, IsRun}
-use Rattle.ref_text.specs.declared.events.Why.{Why}
+use Rattle.clause_base.specs.declared.line.Line.{Line}
+use Rattle.clause_base.specs.Refutation.{Derived, IsUnitRun}
+use Rattle.ref_text.specs.declared.why.Why.{Why}
 use Rattle.refute_check.specs.Hints.{judged, AreHints}
 use Rattle.refute_check.proofs.RunLaws.{run_passes, passed_runs}
 
@@ -49,15 +49,15 @@ front_last hs some =
     let n : length hs - 1 + 1 ≡ length hs = omega arith in
     sym (take_all (length hs) hs (omega arith)) ∙ ap (λ (k : ℕ). take k hs) (sym n) ∙ more ∙ refl
 
-pub judged_runs : (clauses : List (List ℤ)) (held : List ℤ) (hs : List ℕ) → 0 < length hs → AreHints clauses hs → judged clauses held hs ≡ None → IsRun clauses held hs
+pub judged_runs : (clauses : List (List ℤ)) (held : List ℤ) (hs : List ℕ) → 0 < length hs → AreHints clauses hs → judged clauses held hs ≡ None → IsUnitRun clauses held hs
 judged_runs clauses held hs some hints e =
     let f = front_last hs some in
-    subst (λ (l : List ℕ). IsRun clauses held l) (sym f) (passed_runs clauses held (take (length hs - 1) hs) (slice_index hs (length hs - 1)) (subst (λ (l : List ℕ). AreHints clauses l) f hints) e)
+    subst (λ (l : List ℕ). IsUnitRun clauses held l) (sym f) (passed_runs clauses held (take (length hs - 1) hs) (slice_index hs (length hs - 1)) (subst (λ (l : List ℕ). AreHints clauses l) f hints) e)
 
-pub runs_judged : (clauses : List (List ℤ)) (held : List ℤ) (hs : List ℕ) → 0 < length hs → IsRun clauses held hs → judged clauses held hs ≡ None
+pub runs_judged : (clauses : List (List ℤ)) (held : List ℤ) (hs : List ℕ) → 0 < length hs → IsUnitRun clauses held hs → judged clauses held hs ≡ None
 runs_judged clauses held hs some r =
     let f = front_last hs some in
-    run_passes clauses held (take (length hs - 1) hs) (slice_index hs (length hs - 1)) (subst (λ (l : List ℕ). IsRun clauses held l) f r)
+    run_passes clauses held (take (length hs - 1) hs) (slice_index hs (length hs - 1)) (subst (λ (l : List ℕ). IsUnitRun clauses held l) f r)
 
 -- the answer tells exactly whether the line is derived
 pub record IsExact (list : Clauses) (line : Line) (fault : Option Why) : Type 0 where

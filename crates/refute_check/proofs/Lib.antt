@@ -2,7 +2,6 @@ pub mod SignLemmas
 pub mod LookLaws
 pub mod RunLaws
 pub mod DeriveLemmas
-pub mod SoundLemmas
 pub mod CheckLemmas
 pub mod NextLemmas
 pub mod TakenLemmas

@@ -2,8 +2,8 @@ use Rattle.std.proofs.Common.{◌≡◌, zero, suc, ℤ, ◌<◌, Bool, true, fa
 use Rattle.std.specs.Prelude.{All}
 use Rattle.std.proofs.lemmas.List.{get_or_at, length-append}
 use Rattle.clause_base.specs.Truth.{value_in, IsFalse, IsUnit}
-use Rattle.refute_check.specs.declared.derivation.Look.{Look}
-use Rattle.refute_check.specs.declared.derivation.Look.TheVariants.{Settled, Single, False}
+use Rattle.refute_check.specs.declared.derivation.ClauseStatus.{ClauseStatus}
+use Rattle.refute_check.specs.declared.derivation.ClauseStatus.TheVariants.{Settled, Unit, False}
 use Rattle.refute_check.specs.Hints.{seen_with, look_on}
 
 false_none : (held : List ℤ) → IsFalse held []
@@ -31,45 +31,45 @@ settled_stays held (z ∷ zs) = by (value_in z held) (settled_stays held zs)
     by None h = h
 
 -- false literals change nothing
-pub false_keeps : (held zs : List ℤ) (l : Look) → IsFalse held zs → look_on held zs l ≡ l
+pub false_keeps : (held zs : List ℤ) (l : ClauseStatus) → IsFalse held zs → look_on held zs l ≡ l
 unfolding look_on
 false_keeps held [] l h = refl
 false_keeps held (z ∷ zs) l h = rw (false_head held z zs h) (false_keeps held zs l (false_tail held z zs h))
 
-pub look_append : (held xs ys : List ℤ) (l : Look) → look_on held (xs ++ ys) l ≡ look_on held ys (look_on held xs l)
+pub look_append : (held xs ys : List ℤ) (l : ClauseStatus) → look_on held (xs ++ ys) l ≡ look_on held ys (look_on held xs l)
 unfolding look_on
 look_append held [] ys l = refl
 look_append held (x ∷ xs) ys l = look_append held xs ys (seen_with x (value_in x held) l)
 
 -- a unit clause is seen as such
-pub unit_seen : (held clause : List ℤ) (z : ℤ) → IsUnit held clause z → look_on held clause False ≡ Single z
+pub unit_seen : (held clause : List ℤ) (z : ℤ) → IsUnit held clause z → look_on held clause False ≡ Unit z
 unfolding look_on
 unit_seen held clause z u =
     let first : look_on held (u.front ++ z ∷ u.back) False ≡ look_on held (z ∷ u.back) False = look_append held u.front (z ∷ u.back) False ∙ ap (look_on held (z ∷ u.back)) (false_keeps held u.front False u.before) in
-    let next : look_on held (z ∷ u.back) False ≡ look_on held u.back (Single z) = rw u.unassigned refl in
-    ap (λ c. look_on held c False) u.split ∙ first ∙ next ∙ false_keeps held u.back (Single z) u.after
+    let next : look_on held (z ∷ u.back) False ≡ look_on held u.back (Unit z) = rw u.unassigned refl in
+    ap (λ c. look_on held c False) u.split ∙ first ∙ next ∙ false_keeps held u.back (Unit z) u.after
 
 -- what was seen after one unassigned literal
 pub record Stays (held zs : List ℤ) (y z : ℤ) : Type 0 where
   pub same : z ≡ y
   pub false_there : IsFalse held zs
 
-single_stays : (held zs : List ℤ) (y z : ℤ) → look_on held zs (Single y) ≡ Single z → Stays held zs y z
+single_stays : (held zs : List ℤ) (y z : ℤ) → look_on held zs (Unit y) ≡ Unit z → Stays held zs y z
 unfolding look_on
 single_stays held [] y z h = record { same = cc; false_there = false_none held }
 single_stays held (x ∷ xs) y z h = by (value_in x held) refl (λ e. single_stays held xs y z e) h
   where
-    by : (o : Option Bool) → value_in x held ≡ o → (look_on held xs (Single y) ≡ Single z → Stays held xs y z) → look_on held xs (seen_with x o (Single y)) ≡ Single z → Stays held (x ∷ xs) y z
+    by : (o : Option Bool) → value_in x held ≡ o → (look_on held xs (Unit y) ≡ Unit z → Stays held xs y z) → look_on held xs (seen_with x o (Unit y)) ≡ Unit z → Stays held (x ∷ xs) y z
     by (Some true) v k e = let s = settled_stays held xs in cc
     by (Some false) v k e = let s = k e in record { same = s.same; false_there = false_more held x xs v s.false_there }
     by None v k e = let s = settled_stays held xs in cc
 
-single_not : (held zs : List ℤ) (y : ℤ) → look_on held zs (Single y) ≡ False → ⊥
+single_not : (held zs : List ℤ) (y : ℤ) → look_on held zs (Unit y) ≡ False → ⊥
 unfolding look_on
 single_not held [] y h = cc
 single_not held (x ∷ xs) y h = by (value_in x held) (λ e. single_not held xs y e) h
   where
-    by : (o : Option Bool) → (look_on held xs (Single y) ≡ False → ⊥) → look_on held xs (seen_with x o (Single y)) ≡ False → ⊥
+    by : (o : Option Bool) → (look_on held xs (Unit y) ≡ False → ⊥) → look_on held xs (seen_with x o (Unit y)) ≡ False → ⊥
     by (Some true) k e = let s = settled_stays held xs in cc
     by (Some false) k e = k e
     by None k e = let s = settled_stays held xs in cc
@@ -96,12 +96,12 @@ unit_more held x xs z v u = record {
 }
 
 -- a clause seen as unit is so
-pub single_seen : (held clause : List ℤ) (z : ℤ) → look_on held clause False ≡ Single z → IsUnit held clause z
+pub single_seen : (held clause : List ℤ) (z : ℤ) → look_on held clause False ≡ Unit z → IsUnit held clause z
 unfolding look_on
 single_seen held [] z h = cc
 single_seen held (x ∷ xs) z h = by (value_in x held) refl (λ e. single_seen held xs z e) h
   where
-    by : (o : Option Bool) → value_in x held ≡ o → (look_on held xs False ≡ Single z → IsUnit held xs z) → look_on held xs (seen_with x o False) ≡ Single z → IsUnit held (x ∷ xs) z
+    by : (o : Option Bool) → value_in x held ≡ o → (look_on held xs False ≡ Unit z → IsUnit held xs z) → look_on held xs (seen_with x o False) ≡ Unit z → IsUnit held (x ∷ xs) z
     by (Some true) v k e = let s = settled_stays held xs in cc
     by (Some false) v k e = unit_more held x xs z v (k e)
     by None v k e = let s = single_stays held xs x z e in subst (λ (y : ℤ). IsUnit held (x ∷ xs) y) (sym s.same) (record { front = []; back = xs; split = refl; unassigned = v; before = false_none held; after = s.false_there })

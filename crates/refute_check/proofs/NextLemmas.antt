@@ -1,7 +1,7 @@
 -- What a line that was read says of the list and the reader.
 use Rattle.std.proofs.Common.{◌≡◌, ℕ, ℤ, ◌+◌, ◌≤◌, ◌^◌, Bool, List, [], ◌∷◌, length, take, sym, ap, subst, ◌∙◌, length-append, arith}
 use Rattle.clause_base.specs.Clauses.{Clauses}
-use Rattle.clause_base.specs.declared.log.Line.{Line}
+use Rattle.clause_base.specs.declared.line.Line.{Line}
 use Rattle.ref_text.specs.Form.{form}
 use Rattle.ref_text.specs.Fault.{line_of}
 use Rattle.ref_text.specs.Fits.{IsRight}

@@ -1,8 +1,9 @@
 -- The text of a refutation is taken for one.
 use Rattle.std.proofs.Common.{◌≡◌, ◌≢◌, ℕ, zero, suc, ℤ, neg_ℤ, ◌+◌, ◌-◌, ◌<◌, ◌≤◌, ◌^◌, ◌==◌, Bool, true, false, not, List, [], ◌∷◌, ◌++◌, length, map, take, get_or, Option, Some, None, refl, sym, ap, subst, ◌∙◌, append_assoc, length-append, arith}
-use Rattle.std.specs.Prelude.{◌&&◌, All, AllPairs, nat_lt}
+use Rattle.std.specs.Prelude.{All, AllPairs, nat_lt}
 use Rattle.std.specs.Bool.{if◌then◌else◌}
 use Rattle.std.specs.List.{list_all, list_any}
+use Rattle.std.proofs.lemmas.Bool.{and_from}
 use Rattle.std.proofs.lemmas.Bool.Decides.{nat_tests}
 use Rattle.std.proofs.lemmas.List.{append-nil}
 use Rattle.std.proofs.lemmas.List.Elements.{All-tail}
@@ -12,25 +13,20 @@ use Rattle.std.proofs.lemmas.Option.{slice_get_within}
 use Rattle.clause_base.specs.Lit.{var_of}
 use Rattle.clause_base.specs.Clauses.{Clauses}
 use Rattle.clause_base.specs.Truth.{IsNumbered}
-use Rattle.clause_base.specs.declared.log.Line.{Line}
-use Rattle.clause_base.specs.Refutation.{IsRun, Derived, clause_of, with_lines, AreDerived, Refutes}
-use Rattle.ref_text.specs.declared.events.Why.{Why}
-use Rattle.ref_text.specs.declared.events.Why.TheVariants as why
+use Rattle.clause_base.specs.declared.line.Line.{Line}
+use Rattle.clause_base.specs.Refutation.{IsUnitRun, Derived, clause_of, with_lines, AreDerived, Refutes}
+use Rattle.ref_text.specs.declared.why.Why.{Why}
+use Rattle.ref_text.specs.declared.why.Why.TheVariants as why
 use Rattle.ref_text.specs.Form.{Written, form}
 use Rattle.ref_text.specs.Fault.{is_variable, are_literals, written_fault, line_of, is_empty}
 use Rattle.ref_text.specs.Text.{line_text, lines_text, refutation_text}
 use Rattle.ref_text.specs.Printed.{CanBeRead}
+use Rattle.ref_text.proofs.MarkLemmas.{all_three}
 use Rattle.ref_text.proofs.PrintedLemmas.{line_said}
 use Rattle.refute_check.specs.Hints.{AreHints}
 use Rattle.refute_check.specs.Check.{lines_of, or_hints, line_fault, with_line, or_further, progress, verdict, check}
 use Rattle.refute_check.specs.declared.checked.Checked.TheVariants as checked
 use Rattle.refute_check.proofs.DeriveLemmas.{runs_judged}
-
-three : (a b c : Bool) → a ≡ true → b ≡ true → c ≡ true → (a && b && c) ≡ true
-three true true true h k l = refl
-three true true false h k l = cc
-three true false c h k l = cc
-three false b c h k l = cc
 
 pub pairs_tail : {X : Type 0} (R : X → X → Type 0) (x : X) (xs : List X) → AllPairs R (x ∷ xs) → AllPairs R xs
 pairs_tail R x xs apart i j d lt within = apart (suc i) (suc j) d (omega arith) (omega arith)
@@ -45,7 +41,7 @@ literals_pass vars (z ∷ zs) above in_range apart =
     let variable : is_variable vars (var_of z) ≡ true = grind (arith, nat_tests) in
     let none : list_any (λ y. var_of y == var_of z) zs ≡ false =
     list_any_none (λ y. var_of y == var_of z) zs (λ k d lt. let other : var_of z ≢ var_of (get_or zs k d) = apart 0 (suc k) d (omega arith) (omega arith) in grind (arith, nat_tests)) in
-    three _ _ _ variable (ap not none)
+    all_three _ _ _ variable (ap not none)
     (literals_pass vars zs (All-tail (λ z. 0 < var_of z) z zs above) (All-tail (λ z. var_of z ≤ vars) z zs in_range) (pairs_tail (λ a b. var_of a ≢ var_of b) z zs apart))
 
 -- hints below a line's number pass the reader's test
@@ -63,14 +59,14 @@ numbered_in clauses number clause n =
     (n.above, omega (arith, lt, n.above))
 
 -- the hints of a run are numbers of clauses
-pub run_hints : (clauses : List (List ℤ)) (held : List ℤ) (hints : List ℕ) → IsRun clauses held hints → AreHints clauses hints
+pub run_hints : (clauses : List (List ℤ)) (held : List ℤ) (hints : List ℕ) → IsUnitRun clauses held hints → AreHints clauses hints
 run_hints clauses held [] r k d lt = absurd r
 run_hints clauses held (last ∷ []) r zero d lt = numbered_in clauses last r.clause r.numbered
 run_hints clauses held (last ∷ []) r (suc k) d lt = absurd (omega arith)
 run_hints clauses held (h ∷ (next ∷ rest)) r zero d lt = let f = r.1 in numbered_in clauses h f.clause f.numbered
 run_hints clauses held (h ∷ (next ∷ rest)) r (suc k) d lt = run_hints clauses (held ++ r.0 ∷ []) (next ∷ rest) r.2 k d (omega arith)
 
-run_some : (clauses : List (List ℤ)) (held : List ℤ) (hints : List ℕ) → IsRun clauses held hints → 0 < length hints
+run_some : (clauses : List (List ℤ)) (held : List ℤ) (hints : List ℕ) → IsUnitRun clauses held hints → 0 < length hints
 run_some clauses held [] r = absurd r
 run_some clauses held (h ∷ hints) r = omega arith
 
@@ -95,13 +91,9 @@ fault_none list line derived =
     let literals = literals_pass list.vars line.clause derived.above derived.in_range derived.apart in
     let below : list_all (λ hint. nat_lt hint number) line.hints ≡ true = below_pass number line.hints (λ k d lt. omega (arith, (hints k d lt).1)) in
     let there : nat_lt 0 (length line.hints) ≡ true = grind (arith, nat_tests) in
-    ap (or_hints list line) (no_fault _ _ _ numbered literals (three_of_two _ _ there below))
+    ap (or_hints list line) (no_fault _ _ _ numbered literals (and_from _ _ there below))
     ∙ runs_judged list.clauses (map neg_ℤ line.clause) line.hints some derived.run
   where
-    three_of_two : (a b : Bool) → a ≡ true → b ≡ true → (a && b) ≡ true
-    three_of_two true b h k = k
-    three_of_two false b h k = cc
-
     no_fault : (a b c : Bool) → a ≡ true → b ≡ true → c ≡ true →
         (if not a then Some why.Number else if not b then Some why.Literal else if not c then Some why.Hint else None) ≡ None
     no_fault true true true h k l = refl

@@ -1,18 +1,18 @@
 -- The lines of a text that refutes a list are a refutation of it.
 use Rattle.std.proofs.Common.{◌≡◌, ◌≢◌, ℕ, zero, suc, ℤ, ◌+◌, ◌==◌, Bool, true, false, not, List, [], ◌∷◌, ◌++◌, length, map, take, Option, Some, None, refl, sym, ap, subst, inl, inr, append_assoc, arith}
 use Rattle.std.specs.Prelude.{All}
-use Rattle.std.proofs.lemmas.Bool.{cases_Bool}
+use Rattle.std.proofs.lemmas.Bool.{cases_Bool, both_ways}
 use Rattle.std.proofs.lemmas.Bool.Decides.{nat_tests}
 use Rattle.std.proofs.lemmas.List.{append-nil}
 use Rattle.clause_base.specs.Clauses.{Clauses}
-use Rattle.clause_base.specs.declared.log.Line.{Line}
+use Rattle.clause_base.specs.declared.line.Line.{Line}
 use Rattle.clause_base.specs.Refutation.{Derived, clause_of, with_lines, AreDerived, Refutes}
 use Rattle.ref_text.specs.Form.{form}
 use Rattle.ref_text.specs.Fault.{text_fault, line_of, is_empty}
-use Rattle.ref_text.specs.declared.events.Why.{Why}
+use Rattle.ref_text.specs.declared.why.Why.{Why}
 use Rattle.ref_text.proofs.RightLemmas.{fault_passes}
 use Rattle.refute_check.specs.Check.{lines_of, or_hints, line_fault, with_line, or_further, progress, verdict_of, check}
-use Rattle.refute_check.specs.declared.checked.Progress.{Progress}
+use Rattle.refute_check.specs.declared.progress.Progress.{Progress}
 use Rattle.refute_check.specs.declared.checked.Checked.TheVariants as checked
 use Rattle.refute_check.proofs.CheckLemmas.{line_derived}
 
@@ -43,17 +43,13 @@ record AreRead (list : Clauses) (count : ℕ) (over : Bool) (p : Progress) : Typ
   pub stays : over ≡ true → lines ≡ []
   pub ends : over ≡ false → p.over ≡ true → Ends lines
 
-not_both : (b : Bool) → b ≡ false → b ≡ true → ⊥
-not_both true f t = cc
-not_both false f t = cc
-
 nothing_read : (list : Clauses) (count : ℕ) (over : Bool) (begun : Bool) → AreRead list count over (record { count = count; over = over; bad = None; begun = begun })
 nothing_read list count over begun = record {
   lines = [];
   counted = omega arith;
   derived = λ k line is. let no : ⊥ = cc in absurd no;
   stays = λ e. refl;
-  ends = λ f t. absurd (not_both over f t);
+  ends = λ f t. absurd (both_ways over f t);
 }
 
 not_over : (list : Clauses) (over : Bool) (line : List ℕ) → line_fault list over line ≡ None → over ≡ false
@@ -68,7 +64,7 @@ no_literal [] e = refl
 no_literal (z ∷ zs) e = absurd (grind (arith, nat_tests))
 
 some_literal : (clause : List ℤ) → (length clause == 0) ≡ false → clause ≢ []
-some_literal clause e none = let no : (length clause == 0) ≡ true = ap (λ (c : List ℤ). length c == 0) none in not_both _ e no
+some_literal clause e none = let no : (length clause == 0) ≡ true = ap (λ (c : List ℤ). length c == 0) none in both_ways _ e no
 
 full_more : (line : Line) (front : List Line) → line.clause ≢ [] → All (λ l. l.clause ≢ []) front → All (λ l. l.clause ≢ []) (line ∷ front)
 full_more line front first rest zero d lt = first
@@ -82,7 +78,7 @@ read_more list count over line p right more =
       lines = first ∷ more.lines;
       counted = omega (arith, more.counted);
       derived = derived_more list first more.lines (line_derived list over line right) more.derived;
-      stays = λ t. absurd (not_both over (not_over list over line right) t);
+      stays = λ t. absurd (both_ways over (not_over list over line right) t);
       ends = λ f t. elim (cases_Bool (is_empty first)) [
         | inl empty ↦ record {
           front = [];

@@ -14,8 +14,8 @@ use Rattle.std.proofs.lemmas.Option.{slice_get_within}
 use Rattle.clause_base.specs.Lit.{var_of, is_positive}
 use Rattle.clause_base.specs.Clauses.{Clauses, IsClause}
 use Rattle.clause_base.specs.Truth.{sign_in, value_in, IsNumbered}
-use Rattle.clause_base.specs.declared.log.Line.{Line}
-use Rattle.clause_base.specs.Refutation.{IsRun, Derived, AreDerived}
+use Rattle.clause_base.specs.declared.line.Line.{Line}
+use Rattle.clause_base.specs.Refutation.{IsUnitRun, Derived, AreDerived}
 use Rattle.ref_text.specs.Text.{number_word, literal_word, line_text, lines_text, refutation_text}
 use Rattle.refute_check.specs.Check.{with_line}
 use Rattle.refute_check.proofs.SignLemmas.{sign-free}
@@ -92,7 +92,7 @@ clause_valid vars clauses number clause all n =
     subst (IsClause vars) (numbered_is clauses number clause n) (all (number - 1) [] lt)
 
 -- each hint but the last sets a variable that was not set
-run_few : (vars : ℕ) (clauses : List (List ℤ)) → All (IsClause vars) clauses → (held : List ℤ) (hints : List ℕ) → AreApart vars held → IsRun clauses held hints → length held + length hints ≤ vars + 1
+run_few : (vars : ℕ) (clauses : List (List ℤ)) → All (IsClause vars) clauses → (held : List ℤ) (hints : List ℕ) → AreApart vars held → IsUnitRun clauses held hints → length held + length hints ≤ vars + 1
 run_few vars clauses all held [] h r = absurd r
 run_few vars clauses all held (last ∷ []) h r = let le = few_apart vars held h in omega (arith, le)
 run_few vars clauses all held (hint ∷ (next ∷ rest)) h r =

@@ -7,7 +7,7 @@ use Rattle.clause_base.specs.Clauses.{Clauses}
 use Rattle.io_base.specs.Causes.{end_of_count, counted}
 use Rattle.io_base.specs.Shelf.{ShelfState, Reads}
 use Rattle.io_base.proofs.LoadSteps.{Begins}
-use Rattle.ref_text.specs.declared.events.Why.{Why}
+use Rattle.ref_text.specs.declared.why.Why.{Why}
 use Rattle.refute_check.specs.Check.{lines_of, progress, check}
 use Rattle.refute_check.specs.Taken.{IsFront, IsTaken, IsOfBytes, Explains, refused_of, decided, check_file}
 use Rattle.refute_check.specs.declared.checked.CheckFault.{CheckFault}
@@ -78,7 +78,7 @@ taken_decides old new name limit list bytes longer (Err fault.TooLong) taken tol
     (bytes, taken.fits, (subst P more.0 taken).cause, subst (λ (b : Bool). decided list bytes b ≡ None) more.0 more.1)
 
 -- a fact of each answer gives another
-pub each_answer : {E : Type 0} (P Q : Checked → Type 0) → ((answer : Checked) → P answer → Q answer) → (result : Result Checked E) → IfOk result P → IfOk result Q
+pub each_answer : {A E : Type 0} (P Q : A → Type 0) → ((answer : A) → P answer → Q answer) → (result : Result A E) → IfOk result P → IfOk result Q
 each_answer P Q k (Ok answer) h = k answer h
 each_answer P Q k (Err e) h = h
 

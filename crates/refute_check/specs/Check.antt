@@ -4,13 +4,13 @@
 use Rattle.std.specs.Prelude.{ℕ, neg_ℤ, ◌+◌, ◌==◌, not, Bool, true, false, List, [], ◌∷◌, ◌++◌, length, map, Option, Some, None}
 use Rattle.std.specs.List.{slice_split}
 use Rattle.clause_base.specs.Clauses.{Clauses}
-use Rattle.clause_base.specs.declared.log.Line.{Line}
+use Rattle.clause_base.specs.declared.line.Line.{Line}
 use Rattle.ref_text.specs.Form.{form}
 use Rattle.ref_text.specs.Fault.{text_fault, line_of, is_empty}
-use Rattle.ref_text.specs.declared.events.Why.{Why}
-use Rattle.ref_text.specs.declared.events.Why.TheVariants as why
+use Rattle.ref_text.specs.declared.why.Why.{Why}
+use Rattle.ref_text.specs.declared.why.Why.TheVariants as why
 use Rattle.refute_check.specs.Hints.{judged}
-use Rattle.refute_check.specs.declared.checked.Progress.{Progress}
+use Rattle.refute_check.specs.declared.progress.Progress.{Progress}
 use Rattle.refute_check.specs.declared.checked.Checked.{Checked}
 use Rattle.refute_check.specs.declared.checked.Checked.TheVariants as checked
 
@@ -32,6 +32,7 @@ line_fault list over line = or_hints list (line_of (form line)) (text_fault (len
 abbrev pub with_line : Clauses → Line → Clauses
 with_line list line = record { vars = list.vars; clauses = list.clauses ++ line.clause ∷ [] }
 
+-- the first refused line ends the reading; else the further lines are judged
 abbrev pub or_further : ℕ → Bool → Option Why → Progress → Progress
 or_further count over None further = further
 or_further count over (Some why) further = record { count = count; over = over; bad = Some why; begun = false }
@@ -55,6 +56,7 @@ verdict_of count over (Some why) begun = checked.Rejected (count + 1) why
 verdict_of count over None true = checked.Rejected (count + 1) why.Text
 verdict_of count over None false = ended count over
 
+-- the answer for how far the lines go
 abbrev pub verdict : Progress → Checked
 verdict p = verdict_of p.count p.over p.bad p.begun
 

@@ -1,4 +1,4 @@
-pub mod Signed
+pub mod Held
 pub mod Kept
 pub mod Hints
 pub mod Check

@@ -4,9 +4,9 @@ use Rattle.std.specs.Prelude.{ℕ, ◌+◌, ◌<◌, ◌≤◌, ◌≡◌, Bool,
 use Rattle.clause_base.specs.Clauses.{Clauses}
 use Rattle.io_base.specs.Loading.{TookMore}
 use Rattle.io_base.specs.Shelf.{ShelfState, CountsTaken}
-use Rattle.ref_text.specs.declared.events.Why.{Why}
+use Rattle.ref_text.specs.declared.why.Why.{Why}
 use Rattle.refute_check.specs.Check.{lines_of, progress, check}
-use Rattle.refute_check.specs.declared.checked.Progress.{Progress}
+use Rattle.refute_check.specs.declared.progress.Progress.{Progress}
 use Rattle.refute_check.specs.declared.checked.Checked.{Checked}
 use Rattle.refute_check.specs.declared.checked.Checked.TheVariants as checked
 use Rattle.refute_check.specs.declared.checked.CheckFault.{CheckFault}
@@ -34,6 +34,7 @@ abbrev pub refused_of : ℕ → Option Why → Option Checked
 refused_of count None = None
 refused_of count (Some why) = Some (checked.Rejected (count + 1) why)
 
+-- the same, of how far the lines go
 abbrev pub refusal : Progress → Option Checked
 refusal p = refused_of p.count p.bad
 
@@ -57,8 +58,8 @@ Explains (Some file) limit list (Err fault.NoFile) = ⊥
 Explains file limit list (Err fault.Failed) = Unit {0}
 Explains file limit list (Err fault.OutOfMemory) = Unit {0}
 
--- what every shelf says of an answer: it is decided by bytes within the limit, just those that were taken or the first of
--- more
+-- what every shelf says of an answer: it is decided by bytes within the limit, just those that were taken or the
+-- first of more
 abbrev pub IsOfBytes : ℕ → Clauses → ShelfState → ShelfState → Result Checked CheckFault → Type 0
 IsOfBytes limit list old new (Ok answer) =
     (bytes : List ℕ) × (longer : Bool) × (length bytes ≤ limit) × HasTaken limit old new bytes longer × (decided list bytes longer ≡ Some answer)

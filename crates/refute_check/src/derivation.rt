@@ -6,7 +6,7 @@ ghost use Rattle.clause_base.specs.Clauses.{IsClause};
 ghost use Rattle.clause_base.specs.Refutation.{Derived};
 ghost use Rattle.refute_check.specs.Hints as spec;
 ghost use Rattle.refute_check.specs.Hints.{look_on, clause_at, held_by, held_if, held_after, judged, AreHints};
-ghost use Rattle.refute_check.specs.declared.derivation.Look.TheVariants as look;
+ghost use Rattle.refute_check.specs.declared.derivation.ClauseStatus.TheVariants as look;
 
 use crate::signs::Signs;
 use clause_base::{ClauseList, Lit};
@@ -15,36 +15,36 @@ use std::alloc::AllocError;
 
 /// What a clause shows under the literals that hold.
 #[derive(Clone, Copy)]
-pub(crate) enum Look {
+pub(crate) enum ClauseStatus {
     /// A literal is true, or two are unassigned.
     Settled,
     /// This literal is unassigned, and the others are false.
-    Single(Lit),
+    Unit(Lit),
     /// Every literal is false.
     False,
 }
 
 // What is known of a clause after one more literal.
-fn seen_with(lit: Lit, value: Option<bool>, before: Look) -> Look
+fn seen_with(lit: Lit, value: Option<bool>, before: ClauseStatus) -> ClauseStatus
     ensures { result ≡ spec.seen_with lit value before }
 {
     match value {
-        Some(true) => Look::Settled,
+        Some(true) => ClauseStatus::Settled,
         Some(false) => before,
         None => match before {
-            Look::False => Look::Single(lit),
-            Look::Single(_) => Look::Settled,
-            Look::Settled => Look::Settled,
+            ClauseStatus::False => ClauseStatus::Unit(lit),
+            ClauseStatus::Unit(_) => ClauseStatus::Settled,
+            ClauseStatus::Settled => ClauseStatus::Settled,
         },
     }
 }
 
 #[tactic(auto, unfolding(crate::specs::Hints::look_on))]
-fn look_at(signs: &Signs, clause: &[Lit]) -> Look
+fn look_on(signs: &Signs, clause: &[Lit]) -> ClauseStatus
     requires { All (λ z. var_of z ≤ signs.now.vars) clause.now }
     ensures { result ≡ look_on signs.now.held clause.now look.False }
 {
-    let mut seen = Look::False;
+    let mut seen = ClauseStatus::False;
     for lit in clause {
         seen = seen_with(*lit, signs.value(*lit), seen);
     }
@@ -67,13 +67,13 @@ fn hold_unit(list: &ClauseList, signs: &mut Signs, hint: u32) -> Result<bool, Al
     ensures vars { signs.new.vars ≡ signs.old.vars }
     ensures step { IfOk result (λ unit. held_by list.now.clauses signs.old.held hint ≡ held_if unit signs.new.held) }
 {
-    match look_at(signs, clause_of(list, hint)) {
-        Look::Single(lit) => {
+    match look_on(signs, clause_of(list, hint)) {
+        ClauseStatus::Unit(lit) => {
             signs.hold(lit)?;
             Ok(true)
         }
-        Look::Settled => Ok(false),
-        Look::False => Ok(false),
+        ClauseStatus::Settled => Ok(false),
+        ClauseStatus::False => Ok(false),
     }
 }
 
@@ -105,10 +105,10 @@ fn run_hints(list: &ClauseList, signs: &mut Signs, hints: &[u32]) -> Result<Opti
     if !hold_units(list, signs, &hints[..last])? {
         return Ok(Some(Why::NotUnit));
     }
-    match look_at(signs, clause_of(list, hints[last])) {
-        Look::False => Ok(None),
-        Look::Single(_) => Ok(Some(Why::NotFalse)),
-        Look::Settled => Ok(Some(Why::NotFalse)),
+    match look_on(signs, clause_of(list, hints[last])) {
+        ClauseStatus::False => Ok(None),
+        ClauseStatus::Unit(_) => Ok(Some(Why::NotFalse)),
+        ClauseStatus::Settled => Ok(Some(Why::NotFalse)),
     }
 }
 

@@ -7,8 +7,8 @@ ghost use Rattle.io_base.specs.Loading.{TookMore};
 ghost use Rattle.mcu_jumps.specs.Position.{Position};
 ghost use Rattle.flow_graph.specs.Graph.{graph_of};
 ghost use Rattle.place_model.specs.Legal.{IsLegal};
-ghost use Rattle.clause_words.specs.Truth.{AllHold, value_in};
-ghost use Rattle.clause_words.specs.Meaning.{meaning};
+ghost use Rattle.placement_clauses.specs.Truth.{AllHold, truth_in};
+ghost use Rattle.placement_clauses.specs.Meaning.{meaning};
 ghost use Rattle.clause_encode.specs.PlacementList.{list_of};
 ghost use Rattle.refute_check.specs.Taken.{Explains, IsOfBytes, decided};
 ghost use Rattle.refute_check.specs.declared.checked.Checked.TheVariants as checked;
@@ -78,7 +78,7 @@ pub fn check_ref<S: Shelf>(
 // The placement clauses of a program, and room for the number of one line more.
 fn program_list(alloc: Global, program: &Program) -> Result<ClauseList, CheckFault>
     ensures list { IfOk result (λ list. list ≡ list_of (graph_of program.now)) }
-    ensures sound { (place : List Position) → IsLegal (graph_of program.now) place → IfOk result (λ list. AllHold (value_in (meaning (graph_of program.now) place)) list.clauses) }
+    ensures sound { (place : List Position) → IsLegal (graph_of program.now) place → IfOk result (λ list. AllHold (truth_in (meaning (graph_of program.now) place)) list.clauses) }
     ensures few { IfOk result (λ list. length list.clauses < 2 ^ 32 - 1) }
     ensures no_memory { OnErr result (result ≡ Err CheckFault.OutOfMemory) }
 {

@@ -1,10 +1,10 @@
-//! Laws of the checker: a text that it takes for a refutation is one, the text of a refutation is taken for one, and how
-//! long such a text can be.
+//! Laws of the checker: a text that it takes for a refutation is one, the text of a refutation is taken for one, and
+//! how long such a text can be.
 
 ghost use Rattle.std.specs.Prelude.{ℕ, ◌≡◌, ◌<◌, ◌≤◌, ◌+◌, ◌*◌, ◌^◌, List, length, All};
 ghost use Rattle.clause_base.specs.Clauses.{Clauses, IsClause};
 ghost use Rattle.clause_base.specs.Refutation.{AreDerived, Refutes};
-ghost use Rattle.clause_base.specs.declared.log.Line.{Line};
+ghost use Rattle.clause_base.specs.declared.line.Line.{Line};
 ghost use Rattle.ref_text.specs.Text.{refutation_text};
 ghost use Rattle.refute_check.specs.Check.{check};
 ghost use Rattle.refute_check.specs.declared.checked.Checked.TheVariants as checked;
@@ -15,8 +15,8 @@ pub fn refuting_text_is_a_refutation()
         (lines : List Line) × (length lines ≡ count) × Refutes list lines }
 {}
 
-/// The text of a refutation of a list is taken for one of so many lines, where 32 bits hold the numbers of its lines and
-/// variables.
+/// The text of a refutation of a list is taken for one of so many lines, where 32 bits hold the numbers of its lines
+/// and variables.
 pub fn printed_refutations_are_taken()
     ensures { (list : Clauses) (lines : List Line) → list.vars < 2 ^ 32 → length list.clauses + length lines < 2 ^ 32 →
         Refutes list lines → check list (refutation_text (length list.clauses) lines) ≡ checked.Refutes (length lines) }

@@ -1,5 +1,5 @@
 //! Checks a refutation: each line of its text is derived from the clauses and the lines before it, or the first that
-//! is not is told.
+//! is not is told. Layer: decision.
 //!
 //! The answer for a text is exactly that of `check` in `specs/Check`. A list of clauses that a text refutes
 //! is made true by no truth values; so a program whose clauses are refuted has no legal placement.
@@ -10,6 +10,7 @@ mod derivation;
 mod files;
 pub mod laws;
 mod lines;
+mod progress;
 mod signs;
 mod taking;
 

@@ -1,23 +1,24 @@
 //! Judges the lines of a text, one after another.
 
 ghost use Rattle.std.specs.Prelude.{ℕ, ◌≡◌, ◌<◌, ◌≤◌, ◌-◌, ◌+◌, ◌^◌, Bool, false, neg_ℤ, map, length, IfOk, OnOk, None};
-ghost use Rattle.clause_base.specs.declared.log.Line.{Line};
-ghost use Rattle.clause_words.specs.Truth.{AllHold};
+ghost use Rattle.clause_base.specs.declared.line.Line.{Line};
+ghost use Rattle.placement_clauses.specs.Truth.{AllHold};
 ghost use Rattle.ref_text.specs.Fits.{IsRight};
 ghost use Rattle.refute_check.specs.Hints.{judged};
 ghost use Rattle.refute_check.specs.Next.{IsBefore, Shows, Takes};
 ghost use Rattle.refute_check.specs.Check.{lines_of, with_line, progress, check};
 ghost use Rattle.refute_check.specs.declared.checked.Checked.TheVariants as checked;
 
-use crate::checked::{Checked, Progress};
+use crate::checked::Checked;
 use crate::derivation::derive_line;
+use crate::progress::Progress;
 use crate::signs::Signs;
 use clause_base::{ClauseList, Lit};
 use io_base::OutOfMemory;
 use ref_text::{Event, LineReader, Why};
 use std::alloc::Global;
 
-/// The answer for a text, judged against the clauses of a list.
+/// The answer for a text, judged against the clauses of a list. It fails only for want of memory.
 pub fn check_bytes(alloc: Global, list: ClauseList, bytes: &[u8]) -> Result<Checked, OutOfMemory>
     requires { length list.clauses < 2 ^ 32 - 1 }
     ensures told { IfOk result (λ answer. answer ≡ check list bytes.now) }
@@ -44,7 +45,7 @@ pub(crate) fn judge_lines(
     let mut count = 0;
     let mut over = false;
     'lines: loop {
-        match next_line(&mut list, &mut signs, &mut reader, &bytes[at..])? {
+        match next_refutation_line(&mut list, &mut signs, &mut reader, &bytes[at..])? {
             NextLine::End(begun) => return Ok(Progress {
                 count,
                 over,
@@ -78,7 +79,7 @@ enum NextLine {
 }
 
 // Reads and judges the next line. The list gets the clause of a derived line.
-fn next_line(
+fn next_refutation_line(
     list: &mut ClauseList,
     signs: &mut Signs,
     reader: &mut LineReader,

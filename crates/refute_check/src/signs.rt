@@ -3,7 +3,7 @@
 ghost use Rattle.std.specs.Prelude.{◌≡◌, ℕ, ◌<◌, ◌≤◌, ◌^◌, ◌+◌, [], ◌∷◌, ◌++◌, All, slice_index_or, None, Some, IfOk, OnOk, OnErr, length};
 ghost use Rattle.clause_base.specs.Lit.{var_of};
 ghost use Rattle.clause_base.specs.Truth.{sign_in, value_in};
-ghost use Rattle.refute_check.specs.Signed.{Signed};
+ghost use Rattle.refute_check.specs.Held.{Held};
 
 use clause_base::Lit;
 use std::alloc::{AllocError, Global};
@@ -18,19 +18,19 @@ pub struct Signs {
 }
 
 impl Model for Signs {
-    ghost use Rattle.refute_check.specs.Signed.{Signed};
+    ghost use Rattle.refute_check.specs.Held.{Held};
 
-    ghost Value = { Signed };
+    ghost Value = { Held };
 
-    ghost use Rattle.refute_check.specs.Kept.{signed, IsKept};
+    ghost use Rattle.refute_check.specs.Kept.{held_of, IsKept};
 
-    ghost view = { signed };
+    ghost view = { held_of };
 
     ghost invariant = { IsKept };
 }
 
 impl Signs {
-    /// No literal holds.
+    /// No literal holds, of the variables 1 to `vars`.
     pub fn new(alloc: Global, vars: u32) -> Result<Signs, AllocError>
         requires { vars < 2 ^ 31 }
         ensures { IfOk result (λ t. t ≡ record { vars = vars; held = [] }) }
@@ -43,7 +43,7 @@ impl Signs {
         })
     }
 
-    /// The truth value of a literal.
+    /// The truth value of a literal, none where neither it nor its negation holds.
     pub fn value(&self, lit: Lit) -> Option<bool>
         requires { var_of lit ≤ self.now.vars }
         ensures { result ≡ value_in lit self.now.held }

@@ -11,7 +11,9 @@ use std::alloc::Global;
 /// The first bytes of a file, and whether it has more.
 #[derive(Drop)]
 pub(crate) struct Taken {
+    /// The first bytes, at most as many as the limit.
     pub bytes: Vec<u8>,
+    /// Whether the file has more.
     pub longer: bool,
 }
 

@@ -7,8 +7,8 @@ use Rattle.io_base.specs.declared.loading.LoadFault.TheVariants as fault
 use Rattle.replies.specs.Texts.{Refuses, Unread}
 use Rattle.replies.specs.declared.status.Status.{Status}
 
--- these are the bytes that were read under a name: where the shelf tells its files, the file's; just they were taken, and no
--- read told that the name is absent
+-- these are the bytes that were read under a name: where the shelf tells its files, the file's; just they were taken,
+-- and no read told that the name is absent
 pub record HasFile (name : List ℕ) (limit : ℕ) (old new : ShelfState) (bytes : List ℕ) : Type 0 where
   pub fits : length bytes ≤ limit
   pub told : IsTrue old.tells → old.file name ≡ Some bytes

@@ -1,4 +1,5 @@
--- The step of a command that reads a script: what it says, or the reply that ends the command (this project's own choice).
+-- The step of a command that reads a script: what it says, or the reply that ends the command (this project's own
+-- choice).
 use Rattle.std.specs.Prelude.{ℕ, ◌≡◌, ◌⊎◌, List, Ok, Err}
 use Rattle.io_base.specs.Shelf.{ShelfState}
 use Rattle.bus_script.specs.declared.fault.ScriptKind.{ScriptKind}

@@ -1,4 +1,5 @@
--- The texts of refusals (this project's own format). Each is one line.
+-- The texts of refusals (this project's own format). Each is one line. The text of a file that was not saved is in
+-- `Unsaved` of the crate `saved_files`, and the checker's are in `CheckerText` of `micro_cli`.
 use Rattle.std.specs.Prelude.{ℕ, ◌≡◌, List, ◌++◌, codes, decimal}
 use Rattle.replies.specs.declared.status.Status.{Status}
 use Rattle.replies.specs.declared.status.Status.TheVariants as status

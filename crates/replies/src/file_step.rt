@@ -8,7 +8,8 @@ use crate::reply::{Stop, refuse, tell_unread};
 use io_base::{LoadFault, Shelf, load};
 use std::alloc::Global;
 
-/// Loads a file of at most `limit` bytes, or stops: `refused NAME NoFile`, `refused NAME TooLong` or `cannot read NAME`.
+/// Loads a file of at most `limit` bytes, or stops: `refused NAME NoFile`, `refused NAME TooLong` or `cannot read
+/// NAME`.
 pub fn load_file<S: Shelf>(
     alloc: Global,
     shelf: &mut S,

@@ -1,8 +1,8 @@
-//! Replies: how the program ends, the texts it ends with, and the steps that all commands share.
+//! Replies: how the program ends, the texts it ends with, and the steps that all commands share. Layer: answers.
 //!
 //! A step loads a file, and reads it as a source or as a script. It gives what was read, or it stops
-//! the command with a reply, a status and its text. `say`, `say_stop` and `say_end` write a text and end with its
-//! status. Which reply comes for which file is this project's own choice, and each step's contract.
+//! the command with a reply, a status and its text. `say`, `say_no_memory`, `say_stop` and `say_end` write a text and
+//! end with its status. Which reply comes for which file is this project's own choice, and each step's contract.
 #![tactic(auto)]
 
 mod endings;
@@ -13,7 +13,7 @@ mod script_step;
 mod source_step;
 mod status;
 
-pub use endings::{say, say_end, say_stop};
+pub use endings::{say, say_end, say_no_memory, say_stop};
 pub use file_step::load_file;
 pub use kind_texts::{refuse_asm, refuse_script};
 pub use reply::{Reply, Stop, refuse, refuse_line, tell_unread};

@@ -12,14 +12,18 @@ use std::alloc::Global;
 /// A status with its text.
 #[derive(Drop)]
 pub struct Reply {
+    /// How the program is to end.
     pub status: Status,
+    /// The text to write.
     pub text: Vec<u8>,
 }
 
-/// Why a step gives nothing: it replies, which ends the command, or memory is wanting.
+/// Why a step gives nothing.
 #[derive(Drop)]
 pub enum Stop {
+    /// A reply, which ends the command.
     Reply(Reply),
+    /// Memory was refused.
     OutOfMemory,
 }
 
@@ -64,7 +68,7 @@ fn unread_text(alloc: Global, name: &str) -> Result<Vec<u8>, OutOfMemory>
     Ok(text)
 }
 
-/// Refuses a file for a reason.
+/// Refuses a file for a reason: `refused NAME WHY`.
 pub fn refuse(alloc: Global, name: &str, why: &[u8]) -> Stop
     ensures { StopsBy (Refuses name.now why.now) result }
 {
@@ -77,7 +81,7 @@ pub fn refuse(alloc: Global, name: &str, why: &[u8]) -> Stop
     }
 }
 
-/// Refuses a file for what is wrong in one of its lines, told by the name of its kind.
+/// Refuses a file for what is wrong in one of its lines, told by the name of its kind: `refused NAME line LINE KIND`.
 pub fn refuse_line(alloc: Global, name: &str, line: u32, kind: &[u8]) -> Stop
     ensures { StopsBy (Refuses name.now (line_reason line kind.now)) result }
 {
@@ -87,7 +91,7 @@ pub fn refuse_line(alloc: Global, name: &str, line: u32, kind: &[u8]) -> Stop
     }
 }
 
-/// Tells that a file could not be read.
+/// Tells that a file could not be read: `cannot read NAME`.
 pub fn tell_unread(alloc: Global, name: &str) -> Stop
     ensures { StopsBy (Unread name.now) result }
 {

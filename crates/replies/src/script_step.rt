@@ -13,7 +13,7 @@ use bus_script::{Script, ScriptFault, read_script};
 use io_base::Shelf;
 use std::alloc::Global;
 
-/// The most bytes of a script.
+/// The most bytes of a script: 4 MiB.
 pub const SCRIPT_LIMIT: u64 = 4_194_304;
 
 /// Reads a script's bytes for an array of so many slices, or stops with the reply that refuses them under the name.

@@ -16,7 +16,7 @@ use std::alloc::Global;
 /// The most bytes of a source.
 const SOURCE_LIMIT: u64 = 1_048_576;
 
-/// Loads and assembles a source, or stops with the reply that refuses it.
+/// Loads and assembles a source of at most 1,048,576 bytes, or stops with the reply that refuses it.
 pub fn load_source<S: Shelf>(alloc: Global, shelf: &mut S, src: &str) -> Result<Program, Stop>
     requires { length src.now ≤ 220 }
     ensures step { MatchResult result

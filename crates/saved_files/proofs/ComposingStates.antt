@@ -28,7 +28,7 @@ pub tells_goes_on : (old new : ShelfState) → GoesOn old new → IsTrue old.tel
 tells_goes_on old new goes_on tells = subst IsTrue (sym goes_on.tells) tells
 
 -- the file of a name, where no file changed
-same_file : (old new : ShelfState) (name : List ℕ) → new.file ≡ old.file → new.file name ≡ old.file name
+pub same_file : (old new : ShelfState) (name : List ℕ) → new.file ≡ old.file → new.file name ≡ old.file name
 same_file old new name same = ap (λ (file : List ℕ → Option (List ℕ)). file name) same
 
 -- files that were saved were saved from an earlier state on, and stay so up to a later one

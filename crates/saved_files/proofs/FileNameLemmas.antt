@@ -9,7 +9,8 @@ use Rattle.saved_files.specs.FileNames.{map_name, layout_name, image_name}
 use Rattle.saved_files.specs.FilesOfAnswers.{image_files, placed_files}
 use Rattle.saved_files.specs.Saving.{AreApart, AreShort}
 
-abbrev name_at : Option SavedFile → List ℕ
+-- the name of the file at a place
+abbrev pub name_at : Option SavedFile → List ℕ
 name_at None = []
 name_at (Some x) = x.name
 

@@ -19,7 +19,8 @@ pub record IsWritten (start now : ShelfState) (name text : List ℕ) : Type 0 wh
   pub last_failed : now.last_failed ≡ start.last_failed
   pub whole : IsTold start → now.file name ≡ Some text
 
--- this file alone was written since the start, a call on it failed at last, and it is as it was or holds a prefix of this text
+-- this file alone was written since the start, a call on it failed at last, and it is as it was or holds a prefix of
+-- this text
 pub record IsUnwritten (start now : ShelfState) (name text : List ℕ) : Type 0 where
   pub only : WritesOnly start now name
   pub rose : Rose start.faults now.faults

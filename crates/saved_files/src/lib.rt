@@ -1,15 +1,16 @@
-//! Saving texts on a shelf, in order, each file by one `create` and then appends.
+//! Saving texts on a shelf, in order, each file by one `create` and then appends. Layer: artefacts.
 //!
 //! The promise to the layers above: where no call fails, each file holds just its bytes and all others
 //! stay; after a fault the files before it stand whole, the file is as it was or holds a prefix of its
 //! bytes, and all others stay. What is said of a file's bytes holds over a shelf that tells its files and
-//! is honest. No memory is taken while files are saved.
+//! is honest. No memory is taken while files are saved. `save_all` and `save_file` use one append for a file;
+//! `begin_file` and `grow_file` also serve a file that is written piece by piece, which the program does not do.
 #![tactic(auto)]
 
 mod laws;
 mod names;
 mod one_file;
-mod placed;
+mod placement_files;
 mod saving;
 #[cfg(test)]
 mod tests;
@@ -22,7 +23,7 @@ pub use laws::{
 };
 pub use names::{image_name, layout_name, map_name, refutation_name, undecided_name};
 pub use one_file::{begin_file, grow_file, save_file};
-pub use placed::placed_files;
+pub use placement_files::placed_files;
 pub use saving::save_all;
 pub use text::Text;
 pub use unsaved::{room_for_unsaved, say_unsaved};

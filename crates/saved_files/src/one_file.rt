@@ -17,7 +17,7 @@ pub fn begin_file<S: Shelf>(shelf: &mut S, name: &str) -> Result<(), Failed>
     shelf.create(name)
 }
 
-/// Adds a piece to the file `name`, which was begun and holds the text so far.
+/// Adds a piece to the file `name`, of at most 220 bytes, which was begun and holds the text so far.
 pub fn grow_file<S: Shelf>(shelf: &mut S, name: &str, piece: &[u8]) -> Result<(), Failed>
     requires { length name.now ≤ 220 }
     ensures ok { (start : ShelfState) (text : List ℕ) → IsWritten start (S.state shelf.old) name.now text →
@@ -33,7 +33,7 @@ pub fn grow_file<S: Shelf>(shelf: &mut S, name: &str, piece: &[u8]) -> Result<()
     }
 }
 
-/// Saves the file `name` by one create and one append: it holds just these bytes then.
+/// Saves the file `name`, of at most 220 bytes, by one create and one append: it holds just these bytes then.
 pub fn save_file<S: Shelf>(shelf: &mut S, name: &str, bytes: &[u8]) -> Result<(), Failed>
     requires { length name.now ≤ 220 }
     ensures ok { OnOk result (IsWritten (S.state shelf.old) (S.state shelf.new) name.now bytes.now) }

@@ -8,7 +8,7 @@ use crate::one_file::save_file;
 use io_base::{Failed, Shelf};
 
 /// Saves files in their order, each by one create and one append. The error is the place of the file
-/// whose save failed. It takes no memory.
+/// whose save failed, from 0. It takes no memory.
 pub fn save_all<S: Shelf>(shelf: &mut S, files: &[Text]) -> Result<(), usize>
     requires apart { AreApart files.now }
     requires short { AreShort files.now }

@@ -1,4 +1,5 @@
--- A slice joined below whole words: each word of the array step is that of the words above with that of the slice below it.
+-- A slice joined below whole words: each word of the array step is that of the words above with that of the slice
+-- below it.
 use Rattle.std.proofs.Common.{ℕ, zero, suc, ◌+◌, ◌-◌, ◌*◌, ◌^◌, ◌<◌, ◌≤◌, ◌≡◌, bit_and, bit_or, bit_xor, sym, ap, ◌∙◌, arith, ◌==◌, Bool, true, false, if◌then◌else◌, refl, List, [], ◌∷◌, inl, inr, length, get_or, set as put_at, All, not, ◌&&◌}
 use Rattle.cpe_slice.specs.declared.register.Reg.{Reg}
 use Rattle.cpe_slice.specs.declared.register.Reg.TheVariants.{R, T, Ac}

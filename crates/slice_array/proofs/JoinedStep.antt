@@ -1,4 +1,5 @@
--- Outside the shift, the step of a slice joined below whole words: the link of the slice goes into the step of the words above.
+-- Outside the shift, the step of a slice joined below whole words: the link of the slice goes into the step of the
+-- words above.
 use Rattle.std.proofs.Common.{ℕ, suc, ◌+◌, ◌-◌, ◌*◌, ◌/◌, ◌%◌, ◌^◌, ◌<◌, ◌≡◌, ap, ◌∙◌, arith, true, false, inl, inr, nat_lt}
 use Rattle.cpe_slice.specs.WordStep.{sum_carry, or_carry, any_bit, Inputs, operand_a, operand_b, test_word, mar_after, result_word, link, bits_below, array_step}
 use Rattle.cpe_slice.specs.Registers.{Registers}

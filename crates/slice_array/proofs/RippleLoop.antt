@@ -1,4 +1,5 @@
--- Outside the shift, the loop over the slices is the recursion: what stands after j slices, followed by a run of the others, is the run of all.
+-- Outside the shift, the loop over the slices is the recursion: what stands after j slices, followed by a run of the
+-- others, is the run of all.
 use Rattle.std.proofs.Common.{ℕ, ◌+◌, ◌*◌, ◌/◌, ◌%◌, ◌^◌, ◌<◌, ◌≤◌, ◌≡◌, sym, ap, ◌∙◌, arith, Bool, false, refl, subst, List, [], ◌∷◌, length, get_or, ◌++◌, take, drop, add-one, drop-cons, append_assoc, append-nil, set}
 use Rattle.cpe_slice.specs.Registers.{Registers, AllBelow}
 use Rattle.cpe_slice.specs.WordStep.{Inputs, array_step, bit}

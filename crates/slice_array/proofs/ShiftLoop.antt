@@ -1,4 +1,5 @@
--- In the right shift, the loop from the last slice down is the recursion: what stands when j slices are left is the run of those above.
+-- In the right shift, the loop from the last slice down is the recursion: what stands when j slices are left is the
+-- run of those above.
 use Rattle.std.proofs.Common.{ℕ, ◌+◌, ◌*◌, ◌/◌, ◌%◌, ◌^◌, ◌<◌, ◌≤◌, ◌≡◌, sym, ap, ◌∙◌, arith, Bool, true, refl, List, [], ◌∷◌, length, get_or, take, drop, add-one, drop-cons, set}
 use Rattle.cpe_slice.specs.Registers.{Registers, AllBelow}
 use Rattle.cpe_slice.specs.WordStep.{Inputs, array_step, bit}

@@ -1,4 +1,5 @@
--- In the right shift, a step slice by slice by recursion is the array step: the low bit of the slices above goes into the slice below.
+-- In the right shift, a step slice by slice by recursion is the array step: the low bit of the slices above goes into
+-- the slice below.
 use Rattle.std.proofs.Common.{ℕ, zero, suc, ◌+◌, ◌*◌, ◌/◌, ◌%◌, ◌^◌, ◌<◌, ◌≡◌, sym, ap, ◌∙◌, arith, true, refl, subst, List, [], ◌∷◌, length}
 use Rattle.std.proofs.Math.Nat.{pow-suc, div-div-eq-div-mul}
 use Rattle.cpe_slice.specs.Registers.{Registers, AllBelow}

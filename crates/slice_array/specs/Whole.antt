@@ -1,4 +1,5 @@
--- The whole words that slices of two bits make, slice 0 the least significant. This wiring is this project's own choice.
+-- The whole words that slices of two bits make, slice 0 the least significant. This wiring is this project's own
+-- choice.
 use Rattle.std.specs.Prelude.{ℕ, List, [], ◌∷◌, ◌+◌, ◌*◌, ◌/◌, ◌%◌, ◌^◌, replicate, map}
 use Rattle.cpe_slice.specs.Registers.{Registers, AllBelow}
 

@@ -34,7 +34,7 @@ impl<const N: usize> Array<N> {
     ghost use Rattle.slice_array.specs.Regs.{registers_of};
     ghost use Rattle.cpe_slice.specs.Registers.{AllBelow};
 
-    /// An array whose registers all hold 0, as at the start of a run.
+    /// An array whose registers all hold 0, as at the start of a run (this project's own choice).
     pub fn zero() -> Array<N>
         requires { (0 < N) × (N ≤ 16) }
         ensures { result ≡ zero_registers }
@@ -55,7 +55,7 @@ impl<const N: usize> Array<N> {
         Array { slices }
     }
 
-    /// The registers.
+    /// The registers, each below 4^N.
     pub fn regs(&self) -> Regs
         ensures value { registers_of result ≡ self.now }
         ensures below { AllBelow (4 ^ N) (registers_of result) }
@@ -65,8 +65,9 @@ impl<const N: usize> Array<N> {
 
     /// One clock of the array. Every register is read as it stood before the clock.
     ///
-    /// `k`, `m` and `i` are the buses. `fo` is the flag output of the 3001: carry in of the least significant slice, and in
-    /// the right shift the new high bit. The data sheet gives the right shift for a K bus of 0 alone.
+    /// `k`, `m` and `i` are the buses, each below 4^N. `fo` is the flag output of the 3001: carry in of the least
+    /// significant slice, and in the right shift the new high bit (this project's own choice). The right shift
+    /// is modelled for a K bus of 0 alone (own choice too).
     pub fn step(&mut self, f: Fn7, k: u32, m: u32, i: u32, fo: bool) -> ArrayOut
         requires buses { (k < 4 ^ N) × (m < 4 ^ N) × (i < 4 ^ N) }
         requires shift_mask { IsTrue (is_shift f) → k ≡ 0 }

@@ -1,8 +1,9 @@
-//! Arrays of one to sixteen 3002 slices.
+//! Arrays of one to sixteen 3002 slices. Layer: chips.
 //!
-//! `Array::<N>::step` works as the chips do: each slice makes its two bits and hands its carry to the slice above it, or in
-//! the right shift its low bit to the slice below it. It is proved to be the array step on whole words, with the link of
-//! every slice, for each N from 1 to 16. No call takes memory.
+//! `Array::<N>::step` works as the chips do: each slice makes its two bits and hands its carry to the slice above it,
+//! or in the right shift its low bit to the slice below it. It is proved to be the array step on whole words, with
+//! the link of every slice, for each N from 1 to 16. How the slices are wired is this project's own choice. No call
+//! takes memory.
 #![tactic(auto)]
 
 mod array;

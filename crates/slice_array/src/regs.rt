@@ -5,6 +5,7 @@
 pub struct Regs {
     /// R0 to R9.
     pub r: [u32; 10],
+    /// The register T.
     pub t: u32,
     /// The accumulator.
     pub ac: u32,

@@ -57,9 +57,9 @@ fn right_shift_of_three_slices(rt: HostRuntime) -> Result<(), Fail> {
     Ok(())
 }
 
-// A clock in each row: the number of slices, the function code, the buses K, M and I, and FO; before the clock the register
-// among R0 to R9 that the code names (R0 where it names none), T, AC and MAR; the same four after it; the links and FI.
-// The other registers hold 0 throughout.
+// A clock in each row: the number of slices, the function code, the buses K, M and I, and FO; before the clock the
+// register among R0 to R9 that the code names (R0 where it names none), T, AC and MAR; the same four after it; the
+// links and FI. The other registers hold 0 throughout.
 const CLOCKS: [[u32; 16]; 56] = [
     [1, 0x00, 3, 3, 0, 1, 0, 3, 0, 3, 1, 3, 1, 3, 0, 0],
     [

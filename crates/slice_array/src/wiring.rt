@@ -1,5 +1,5 @@
-//! How the slices of an array are wired: a slice's carry out is the carry in of the slice above it, and a slice's right out
-//! is the left in of the slice below it.
+//! How the slices of an array are wired: a slice's carry out is the carry in of the slice above it, and a slice's
+//! right out is the left in of the slice below it. This is this project's own choice.
 
 ghost use Rattle.std.specs.Prelude.{◌≡◌, ℕ, ◌<◌, ◌≤◌, ◌^◌, IsTrue, length, true, false};
 ghost use Rattle.slice_array.specs.Whole.{whole, AllSlices};

@@ -8,7 +8,7 @@ use Rattle.std.proofs.lemmas.List.Sums.{sum_by-set}
 use Rattle.std.specs.Bool.{if◌then◌else◌}
 use Rattle.std.specs.Option.{option_or}
 use Rattle.clause_base.specs.Lit.{var_of, is_positive}
-use Rattle.clause_base.specs.declared.clash.Entry.{Entry}
+use Rattle.clause_base.specs.declared.entry.Entry.{Entry}
 use Rattle.trail.specs.Assignment.{sign_of, Follows}
 use Rattle.trail.specs.Kept.{count_of, AreKept}
 use Rattle.trail.proofs.Signs.{given_by, sign-push, option_or-None, count-le}

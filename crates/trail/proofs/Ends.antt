@@ -7,7 +7,7 @@ use Rattle.std.proofs.lemmas.List.Elements.{filter-append}
 use Rattle.std.proofs.lemmas.Option.{slice_get-get_or}
 use Rattle.std.specs.Prelude.{◌-◌, nat_le, nat_lt, filter, slice_get}
 use Rattle.std.specs.Option.{option_map_or}
-use Rattle.clause_base.specs.declared.clash.Entry.{Entry}
+use Rattle.clause_base.specs.declared.entry.Entry.{Entry}
 use Rattle.trail.specs.Assignment.{step_of, level_of, ends_above_test, Follows, IsTrail}
 use Rattle.trail.proofs.Levels.{step-le, level-up_to, level-below}
 

@@ -9,7 +9,7 @@ use Rattle.std.proofs.lemmas.Option.{slice_get_within}
 use Rattle.std.specs.Bool.{if◌then◌else◌}
 use Rattle.std.specs.Prelude.{◌-◌, ◌↔◌, All, AllPairs, slice_get}
 use Rattle.clause_base.specs.Lit.{var_of}
-use Rattle.clause_base.specs.declared.clash.Entry.{Entry}
+use Rattle.clause_base.specs.declared.entry.Entry.{Entry}
 use Rattle.trail.specs.Assignment.{step_of, level_of, Follows, IsTrail, IsLevelled}
 use Rattle.trail.proofs.Signs.{sign-absent}
 use Rattle.trail.proofs.Order.{IsTrail-at}

@@ -5,7 +5,7 @@ use Rattle.std.proofs.lemmas.Bool.{cases_lt}
 use Rattle.std.proofs.lemmas.List.{length_push, take-append-le, take_at, get_or_append_left, get_or_push}
 use Rattle.std.proofs.lemmas.Option.{slice_get-get_or, slice_get_within, get_or_from_slice_get}
 use Rattle.clause_base.specs.Lit.{var_of}
-use Rattle.clause_base.specs.declared.clash.Entry.{Entry}
+use Rattle.clause_base.specs.declared.entry.Entry.{Entry}
 use Rattle.trail.specs.Assignment.{value_of, step_of, level_of, Follows, IsTrail}
 use Rattle.trail.proofs.Signs.{sign-unassigned}
 

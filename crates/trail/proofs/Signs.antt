@@ -6,7 +6,7 @@ use Rattle.std.proofs.lemmas.List.Sums.{sum_by-cons}
 use Rattle.std.specs.Bool.{if◌then◌else◌}
 use Rattle.std.specs.Option.{option_map, option_or}
 use Rattle.clause_base.specs.Lit.{var_of, is_positive}
-use Rattle.clause_base.specs.declared.clash.Entry.{Entry}
+use Rattle.clause_base.specs.declared.entry.Entry.{Entry}
 use Rattle.trail.specs.Assignment.{sign_of, value_of}
 use Rattle.trail.specs.Kept.{count_of}
 

@@ -5,7 +5,7 @@ use Rattle.std.specs.Prelude.{ℕ, ℤ, ◌+◌, ◌<◌, ◌≤◌, ◌≡◌, 
 use Rattle.std.specs.Option.{option_map_or}
 use Rattle.clause_base.specs.Lit.{var_of}
 use Rattle.clause_base.specs.Truth.{lits_of, sign_in, value_in}
-use Rattle.clause_base.specs.declared.clash.Entry.{Entry}
+use Rattle.clause_base.specs.declared.entry.Entry.{Entry}
 
 -- entries over the variables 1 to `vars`
 pub record Assignment : Type 0 where

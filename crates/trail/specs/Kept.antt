@@ -1,7 +1,7 @@
 -- What the fields of a trail keep: the signs are those of the entries, and there is room for every variable.
 
 use Rattle.std.specs.Prelude.{ℕ, ◌+◌, ◌<◌, ◌≤◌, ◌^◌, ◌≡◌, Bool, if◌then◌else◌, List, length, Option, None, is_some, sum_by, slice_index_or, vec_capacity}
-use Rattle.clause_base.specs.declared.clash.Entry.{Entry}
+use Rattle.clause_base.specs.declared.entry.Entry.{Entry}
 use Rattle.trail.specs.Assignment.{Assignment, sign_of, level_of, IsTrail}
 use Rattle.trail.specs.declared.trail.Trail.TheInside.{Inside}
 

@@ -1,4 +1,4 @@
-//! Assigned literals with levels and reasons.
+//! Assigned literals with levels and reasons. Layer: decision.
 //!
 //! A trail holds the literals that a search has decided and those that clauses then imply, in order. It keeps
 //! that no variable is assigned twice, that levels never fall, and that each level from 1 begins with its one

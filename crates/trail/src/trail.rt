@@ -2,7 +2,7 @@
 
 ghost use Rattle.std.specs.Prelude.{◌≡◌, ◌<◌, ◌≤◌, ◌^◌, ◌+◌, [], ◌∷◌, ◌++◌, None, Some, IfOk, length, take, filter, nat_le, slice_get};
 ghost use Rattle.clause_base.specs.Lit.{var_of};
-ghost use Rattle.clause_base.specs.declared.clash.Entry.{Entry};
+ghost use Rattle.clause_base.specs.declared.entry.Entry.{Entry};
 ghost use Rattle.trail.specs.Assignment.{value_of, level_of, ends_above_test, IsTrail, IsLevelled};
 
 use clause_base::{Entry, Lit};
@@ -16,7 +16,7 @@ pub struct Trail {
     vars: u32,
     level: u32,
     entries: Vec<Entry>,
-    /// The sign of each variable by its number, or none where it is unassigned. Place 0 stays unused.
+    // The sign of each variable by its number, or none where it is unassigned. Place 0 stays unused.
     signs: Vec<Option<bool>>,
 }
 

@@ -81,14 +81,14 @@ clk\n\
 clk\n\
 clk i=2 px=4 sx=15\n";
 
-/// The place of a line, with its clock before it and all else behind it.
+// The place of a line, with its clock before it and all else behind it.
 fn cut_at_place(line: &str) -> Option<(&str, &str, &str)> {
     let (clock, rest) = line.split_once(' ')?;
     let (place, rest) = rest.split_once(' ')?;
     Some((clock, place, rest))
 }
 
-/// The cell that a map text gives a label.
+// The cell that a map text gives a label.
 fn cell_in<'a>(map: &'a str, name: &str) -> Option<&'a str> {
     for line in map.lines() {
         let (label, rest) = line.split_once(' ')?;
@@ -100,7 +100,7 @@ fn cell_in<'a>(map: &'a str, name: &str) -> Option<&'a str> {
     None
 }
 
-/// Whether a line of the chip's trace is that of the flow with the cell of its label.
+// Whether a line of the chip's trace is that of the flow with the cell of its label.
 fn is_alike(map: &str, chip: &str, flow: &str) -> Option<bool> {
     let (clock, cell, rest) = cut_at_place(chip)?;
     let (flow_clock, name, flow_rest) = cut_at_place(flow)?;
@@ -110,7 +110,7 @@ fn is_alike(map: &str, chip: &str, flow: &str) -> Option<bool> {
     Some(clock == flow_clock && rest == flow_rest)
 }
 
-/// How many lines of two traces are alike before the first that are not.
+// How many lines of two traces are alike before the first that are not.
 fn alike_lines(map: &str, trace: &str, flow: &str) -> u32 {
     let mut count = 0u32;
     for (chip_line, flow_line) in trace.lines().zip(flow.lines()) {
@@ -122,7 +122,7 @@ fn alike_lines(map: &str, trace: &str, flow: &str) -> u32 {
     count
 }
 
-/// How many clocks of what was saved and run are those of the flow.
+// How many clocks of what was saved and run are those of the flow.
 fn alike_clocks(shelf: &MemShelf, chip: &MemSink, flow: &MemSink) -> Option<u32> {
     let map = std::str::from_utf8(shelf.file("o.map")?).ok()?;
     let chip = std::str::from_utf8(chip.bytes()).ok()?;
@@ -131,7 +131,7 @@ fn alike_clocks(shelf: &MemShelf, chip: &MemSink, flow: &MemSink) -> Option<u32>
     Some(alike_lines(map, trace, flow))
 }
 
-/// Thirty clocks of the flow.
+// Thirty clocks of the flow.
 fn flow_of_source(alloc: Global) -> Option<MemSink> {
     let Some(program) = program_of(alloc, EVERY_STATEMENT) else {
         return None;

@@ -9,7 +9,7 @@ use replies::Status;
 use std::alloc::Global;
 use std::test::Fail;
 
-/// Whether an image of LOOP stands byte for byte.
+// Whether an image of LOOP stands byte for byte.
 fn holds_image(
     alloc: Global,
     shelf: &MemShelf,
@@ -21,12 +21,12 @@ fn holds_image(
     Ok(holds(shelf, name, &image))
 }
 
-/// Whether the map and the layout of LOOP stand byte for byte.
+// Whether the map and the layout of LOOP stand byte for byte.
 fn holds_map_and_layout(shelf: &MemShelf) -> bool {
     holds(shelf, "o.map", b"A 0.0 00 JCC 0\n") && holds(shelf, "o.lay", LOOP_LAYOUT)
 }
 
-/// Whether map, layout and images of LOOP stand byte for byte, and no further image.
+// Whether map, layout and images of LOOP stand byte for byte, and no further image.
 fn holds_loop(alloc: Global, shelf: &MemShelf) -> Result<bool, OutOfMemory> {
     for (name, first_bit) in &LOOP_IMAGES {
         if !holds_image(alloc, shelf, name, *first_bit)? {
@@ -63,7 +63,7 @@ fn the_laws_are_called() {
     images_follow_the_flow();
 }
 
-/// Whether the first half of the first image stands.
+// Whether the first half of the first image stands.
 fn holds_half_an_image(alloc: Global, shelf: &MemShelf) -> Result<bool, OutOfMemory> {
     let mut half = Vec::new(alloc);
     push_words(&mut half, 0, 0, 256)?;
@@ -96,7 +96,7 @@ fn a_map_that_is_not_begun_is_told(rt: HostRuntime) -> Result<(), Fail> {
     Ok(())
 }
 
-/// Whether a failing read of what was saved is told with this text, and the files stand.
+// Whether a failing read of what was saved is told with this text, and the files stand.
 fn tells_read(alloc: Global, read: u32, text: &[u8]) -> Result<bool, OutOfMemory> {
     let mut shelf = MemShelf::new(alloc);
     shelf.fail(CallKind::Read, read)?;
@@ -132,7 +132,7 @@ fn a_script_for_other_slices_is_refused(rt: HostRuntime) -> Result<(), Fail> {
     Ok(())
 }
 
-/// Whether a failing write leaves a prefix of so many bytes, and the files.
+// Whether a failing write leaves a prefix of so many bytes, and the files.
 fn leaves_prefix(alloc: Global, write: u32, bytes: usize) -> Result<bool, OutOfMemory> {
     let mut shelf = MemShelf::new(alloc);
     let mut out = MemSink::new(alloc);

@@ -7,7 +7,7 @@ use replies::Status;
 use std::alloc::Global;
 use std::test::Fail;
 
-/// A shelf with the files of LOOP under `o`, and an empty script `t`.
+// A shelf with the files of LOOP under `o`, and an empty script `t`.
 fn shelf_with_loop(alloc: Global) -> Result<MemShelf, OutOfMemory> {
     let mut shelf = MemShelf::new(alloc);
     let mut out = MemSink::new(alloc);
@@ -16,7 +16,7 @@ fn shelf_with_loop(alloc: Global) -> Result<MemShelf, OutOfMemory> {
     Ok(shelf)
 }
 
-/// Whether a run of the images saved under `o` ends with this status and text.
+// Whether a run of the images saved under `o` ends with this status and text.
 fn runs(alloc: Global, shelf: &mut MemShelf, clocks: u32, status: Status, text: &[u8]) -> bool {
     let mut out = MemSink::new(alloc);
     run_saved(alloc, shelf, &mut out, "o", "t", clocks) == status && out.bytes() == text
@@ -45,7 +45,7 @@ fn a_failed_write_ends_the_run(rt: HostRuntime) -> Result<(), Fail> {
     Ok(())
 }
 
-/// Gives an image of LOOP another first word.
+// Gives an image of LOOP another first word.
 fn put_first_frame(
     alloc: Global,
     shelf: &mut MemShelf,

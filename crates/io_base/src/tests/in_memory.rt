@@ -1,111 +1,144 @@
 //! The objects in memory, and loading and writing over them.
 
-use crate::{CallKind, Failed, LoadFault, MemShelf, MemSink, Shelf, Sink, load, put_all};
+use super::{append_answers, creates, front_answers, gives, load_answers};
+use crate::{CallKind, Failed, LoadFault, MemShelf, MemSink, OutOfMemory, Shelf, Sink, put_all};
+use std::alloc::Global;
 use std::test::Fail;
+
+/// A place, the room for bytes, and what is read of `abcdef`.
+const READS: [(u64, usize, &[u8]); 6] = [
+    (0, 8, b"abcdef"),
+    (2, 3, b"cde"),
+    (4, 3, b"ef"),
+    (6, 3, b""),
+    (9, 3, b""),
+    (1, 0, b""),
+];
 
 #[test]
 fn reads_give_the_bytes_from_a_place(rt: HostRuntime) -> Result<(), Fail> {
     let mut shelf = MemShelf::new(rt.alloc());
-    shelf.put_file("a", b"abcdef").ok().ok_or("memory")?;
-    let reads: [(u64, usize, &[u8]); 6] = [
-        (0, 8, b"abcdef"),
-        (2, 3, b"cde"),
-        (4, 3, b"ef"),
-        (6, 3, b""),
-        (9, 3, b""),
-        (1, 0, b""),
-    ];
-    for (at, room, want) in reads {
-        let mut buf = [0u8; 8];
-        let count = shelf.read_at("a", at, &mut buf[..room.min(8)]);
-        assert_eq!(rt; count, Ok(Some(want.len())), "at {at}");
-        assert_eq!(rt; &buf[..want.len().min(8)], want, "at {at}");
+    shelf.put_file("a", b"abcdef")?;
+    for (at, room, want) in &READS {
+        assert!(rt; gives(&mut shelf, "a", *at, *room, want), "at {at}");
     }
-    let mut buf = [0u8; 8];
-    assert_eq!(rt; shelf.read_at("b", 0, &mut buf), Ok(None));
+    assert!(rt; front_answers(&mut shelf, "b", Ok(None)));
     Ok(())
 }
 
+// Whether a file of the shelf holds just these bytes.
+fn holds(shelf: &MemShelf, name: &str, bytes: &[u8]) -> bool {
+    shelf.file(name).unwrap_or(b"none") == bytes
+}
+
 #[test]
-fn files_are_created_and_added_to(rt: HostRuntime) -> Result<(), Fail> {
+fn files_are_created_and_added_to(rt: HostRuntime) {
     let mut shelf = MemShelf::new(rt.alloc());
-    assert_eq!(rt; shelf.create("a"), Ok(()));
-    assert_eq!(rt; shelf.append("a", b"abc"), Ok(()));
-    assert_eq!(rt; shelf.append("a", b"de"), Ok(()));
-    assert_eq!(rt; shelf.append("b", b"xy"), Ok(()));
-    assert_eq!(rt; shelf.file("a").unwrap_or(b"none"), b"abcde".as_slice());
-    assert_eq!(rt; shelf.file("b").unwrap_or(b"none"), b"xy".as_slice());
-    assert_eq!(rt; shelf.create("a"), Ok(()));
-    assert_eq!(rt; shelf.file("a").unwrap_or(b"none"), b"".as_slice());
+    assert!(rt; creates(&mut shelf, "a"));
+    assert!(rt; append_answers(&mut shelf, "a", b"abc", Ok(())));
+    assert!(rt; append_answers(&mut shelf, "a", b"de", Ok(())));
+    assert!(rt; append_answers(&mut shelf, "b", b"xy", Ok(())));
+    assert!(rt; holds(&shelf, "a", b"abcde"));
+    assert!(rt; holds(&shelf, "b", b"xy"));
+    assert!(rt; creates(&mut shelf, "a"));
+    assert!(rt; holds(&shelf, "a", b""));
     assert!(rt; shelf.file("c").is_none());
-    Ok(())
+}
+
+/// The calls that are to fail.
+const PLAN: [(CallKind, u32); 4] = [
+    (CallKind::Read, 1),
+    (CallKind::Read, 3),
+    (CallKind::Create, 1),
+    (CallKind::Append, 2),
+];
+
+// A shelf with one file, on which the calls of the plan are to fail.
+fn planned_shelf(alloc: Global) -> Result<MemShelf, OutOfMemory> {
+    let mut shelf = MemShelf::new(alloc);
+    shelf.put_file("a", b"ab")?;
+    for (kind, number) in &PLAN {
+        shelf.fail(*kind, *number)?;
+    }
+    Ok(shelf)
+}
+
+// Whether making the file empty fails.
+fn create_fails(shelf: &mut MemShelf) -> bool {
+    shelf.create("a") == Err(Failed)
 }
 
 #[test]
 fn planned_calls_fail(rt: HostRuntime) -> Result<(), Fail> {
-    let mut shelf = MemShelf::new(rt.alloc());
-    shelf.put_file("a", b"ab").ok().ok_or("memory")?;
-    for (kind, number) in [
-        (CallKind::Read, 1),
-        (CallKind::Read, 3),
-        (CallKind::Create, 1),
-        (CallKind::Append, 2),
-    ] {
-        shelf.fail(kind, number).ok().ok_or("memory")?;
-    }
-    let mut buf = [0u8; 8];
-    assert_eq!(rt; shelf.read_at("a", 0, &mut buf), Err(Failed));
-    assert_eq!(rt; shelf.read_at("a", 0, &mut buf), Ok(Some(2)));
-    assert_eq!(rt;
-        load(rt.alloc(), &mut shelf, "a", 9).err(),
-        Some(LoadFault::Failed)
-    );
-    assert_eq!(rt; shelf.create("a"), Err(Failed));
-    assert_eq!(rt; shelf.append("a", b"cd"), Ok(()));
+    let mut shelf = planned_shelf(rt.alloc())?;
+    assert!(rt; front_answers(&mut shelf, "a", Err(Failed)));
+    assert!(rt; front_answers(&mut shelf, "a", Ok(Some(2))));
+    let failed = Err(LoadFault::Failed);
+    assert!(rt; load_answers(rt.alloc(), &mut shelf, "a", 9, failed));
+    assert!(rt; create_fails(&mut shelf));
+    assert!(rt; append_answers(&mut shelf, "a", b"cd", Ok(())));
     // Half of five bytes are two.
-    assert_eq!(rt; shelf.append("a", b"efghi"), Err(Failed));
-    assert_eq!(rt; shelf.file("a").unwrap_or(b"none"), b"abcdef".as_slice());
-    assert_eq!(rt; shelf.append("a", b"jk"), Ok(()));
-    assert_eq!(rt; shelf.file("a").unwrap_or(b"none"), b"abcdefjk".as_slice());
+    assert!(rt; append_answers(&mut shelf, "a", b"efghi", Err(Failed)));
+    assert!(rt; holds(&shelf, "a", b"abcdef"));
+    assert!(rt; append_answers(&mut shelf, "a", b"jk", Ok(())));
+    assert!(rt; holds(&shelf, "a", b"abcdefjk"));
     Ok(())
+}
+
+// Whether one write of the piece answers this.
+fn write_answers(sink: &mut MemSink, piece: &[u8], answer: Result<usize, Failed>) -> bool {
+    sink.write(piece) == answer
+}
+
+// Whether writing the piece whole answers this.
+fn put_answers(sink: &mut MemSink, piece: &[u8], answer: Result<(), Failed>) -> bool {
+    put_all(sink, piece) == answer
 }
 
 #[test]
 fn sink_keeps_what_was_written(rt: HostRuntime) -> Result<(), Fail> {
     let mut sink = MemSink::new(rt.alloc());
-    sink.fail(2).ok().ok_or("memory")?;
-    assert_eq!(rt; sink.write(b"ab"), Ok(2));
-    assert_eq!(rt; sink.write(b"cd"), Err(Failed));
-    assert_eq!(rt; put_all(&mut sink, b"efg"), Ok(()));
-    assert_eq!(rt; put_all(&mut sink, b""), Ok(()));
-    assert_eq!(rt; sink.bytes(), b"abefg".as_slice());
-    sink.fail(4).ok().ok_or("memory")?;
-    assert_eq!(rt; put_all(&mut sink, b"hi"), Err(Failed));
-    assert_eq!(rt; sink.bytes(), b"abefg".as_slice());
+    sink.fail(2)?;
+    assert!(rt; write_answers(&mut sink, b"ab", Ok(2)));
+    assert!(rt; write_answers(&mut sink, b"cd", Err(Failed)));
+    assert!(rt; put_answers(&mut sink, b"efg", Ok(())));
+    assert!(rt; put_answers(&mut sink, b"", Ok(())));
+    assert!(rt; sink.bytes() == b"abefg".as_slice());
+    sink.fail(4)?;
+    assert!(rt; put_answers(&mut sink, b"hi", Err(Failed)));
+    assert!(rt; sink.bytes() == b"abefg".as_slice());
     Ok(())
+}
+
+/// A file of more than one piece.
+const LONG: &[u8] = &[7; 5000];
+
+/// A name, a limit, and the bytes or the fault.
+const LOADS: [(&str, u64, Result<&[u8], LoadFault>); 7] = [
+    ("long", 5000, Ok(LONG)),
+    ("long", 4999, Err(LoadFault::TooLong)),
+    ("long", 4096, Err(LoadFault::TooLong)),
+    ("short", 3, Ok(b"abc")),
+    ("short", 2, Err(LoadFault::TooLong)),
+    ("empty", 0, Ok(b"")),
+    ("absent", 9, Err(LoadFault::NoFile)),
+];
+
+// A shelf with the files that are there.
+fn shelf_to_load(alloc: Global) -> Result<MemShelf, OutOfMemory> {
+    let mut shelf = MemShelf::new(alloc);
+    shelf.put_file("long", LONG)?;
+    shelf.put_file("short", b"abc")?;
+    shelf.put_file("empty", b"")?;
+    Ok(shelf)
 }
 
 #[test]
 fn loads_up_to_the_limit(rt: HostRuntime) -> Result<(), Fail> {
-    let mut shelf = MemShelf::new(rt.alloc());
-    let long = [7u8; 5000];
-    shelf.put_file("long", &long).ok().ok_or("memory")?;
-    shelf.put_file("short", b"abc").ok().ok_or("memory")?;
-    shelf.put_file("empty", b"").ok().ok_or("memory")?;
-    let loads: [(&str, u64, Result<&[u8], LoadFault>); 7] = [
-        ("long", 5000, Ok(&long)),
-        ("long", 4999, Err(LoadFault::TooLong)),
-        ("long", 4096, Err(LoadFault::TooLong)),
-        ("short", 3, Ok(b"abc")),
-        ("short", 2, Err(LoadFault::TooLong)),
-        ("empty", 0, Ok(b"")),
-        ("absent", 9, Err(LoadFault::NoFile)),
-    ];
-    for (name, limit, want) in loads {
-        match load(rt.alloc(), &mut shelf, name, limit) {
-            Ok(bytes) => assert!(rt; want == Ok(bytes.as_slice()), "{name} up to {limit}"),
-            Err(fault) => assert!(rt; want == Err(fault), "{name} up to {limit}"),
-        }
+    let mut shelf = shelf_to_load(rt.alloc())?;
+    for (name, limit, want) in &LOADS {
+        let told = load_answers(rt.alloc(), &mut shelf, name, *limit, *want);
+        assert!(rt; told, "{name} up to {limit}");
     }
     Ok(())
 }

@@ -14,7 +14,7 @@ const ONE_LABEL_TWICE: &[u8] = b"slices 1\nstart A\nA: NOP R0 | iff B B\nB: NOP 
 /// Its refutation.
 const REFUTATION: &[u8] = b"1434 0 1286 1319 1367 1146 0\n";
 
-/// Whether the check of a refutation, over a shelf whose read of this number fails, ends with this status and text.
+// Whether the check of a refutation, over a shelf whose read of this number fails, ends with this status and text.
 fn ends(
     alloc: Global,
     refutation: &[u8],

@@ -107,7 +107,7 @@ Y: NOP R0 | goto Y
 Z: NOP R0 | goto Z
 ";
 
-/// The program of a short source.
+// The program of a short source.
 fn program_of(alloc: Global, source: &[u8]) -> Option<Program> {
     if source.len() > 100_000 {
         return None;
@@ -115,7 +115,8 @@ fn program_of(alloc: Global, source: &[u8]) -> Option<Program> {
     assemble(alloc, source).ok()
 }
 
-/// Whether a search for a placement, saved as `o` and run under a script for so many clocks, ends with this status and text.
+// Whether a search for a placement, saved as `o` and run under a script for so many clocks, ends with this status and
+// text.
 fn ends(
     alloc: Global,
     shelf: &mut MemShelf,
@@ -142,17 +143,17 @@ fn ends(
     ended == status && out.bytes() == text
 }
 
-/// The bytes of a file, none where it is not there.
+// The bytes of a file, none where it is not there.
 fn file_of<'a>(shelf: &'a MemShelf, name: &str) -> &'a [u8] {
     shelf.file(name).unwrap_or(&[])
 }
 
-/// How often a byte stands in a text.
+// How often a byte stands in a text.
 fn count_of(text: &[u8], byte: u8) -> usize {
     text.iter().filter(|&&b| b == byte).count()
 }
 
-/// Whether a text has just this line.
+// Whether a text has just this line.
 fn has_line(text: &[u8], line: &[u8]) -> bool {
     text.split(|&b| b == b'\n').any(|other| other == line)
 }
@@ -271,7 +272,7 @@ fn lines_are_numbered_after_the_clauses(rt: HostRuntime) -> Result<(), Fail> {
     Ok(())
 }
 
-/// Whether each line of a text is one of a clash, which each has one letter, with one `x` and some decision.
+// Whether each line of a text is one of a clash, which each has one letter, with one `x` and some decision.
 fn is_clash(text: &[u8]) -> bool {
     let letters = text.iter().filter(|&&b| b.is_ascii_lowercase()).count();
     letters == count_of(text, b'\n') && count_of(text, b'x') == 1 && count_of(text, b'd') > 0
@@ -296,7 +297,7 @@ fn a_spent_budget_is_saved(rt: HostRuntime) -> Result<(), Fail> {
     Ok(())
 }
 
-/// Whether the checker accepts the refutation that is saved of a source with this text.
+// Whether the checker accepts the refutation that is saved of a source with this text.
 fn is_accepted(alloc: Global, source: &[u8], conflicts: u32, text: &[u8]) -> Option<bool>
     requires { conflicts ≤ 1000000 }
 {
@@ -323,7 +324,7 @@ fn a_larger_budget_decides_and_the_checker_accepts(rt: HostRuntime) -> Result<()
     Ok(())
 }
 
-/// Whether a failing call on the one file of an answer is told.
+// Whether a failing call on the one file of an answer is told.
 fn tells_unsaved(
     alloc: Global,
     kind: CallKind,

@@ -14,21 +14,21 @@ use io_base::{MemShelf, MemSink, OutOfMemory, Shelf, Sink};
 use replies::Status;
 use std::alloc::Global;
 
-/// A shelf with the file `s`.
+// A shelf with the file `s`.
 fn shelf_with(alloc: Global, bytes: &[u8]) -> Result<MemShelf, OutOfMemory> {
     let mut shelf = MemShelf::new(alloc);
     shelf.put_file("s", bytes)?;
     Ok(shelf)
 }
 
-/// A shelf with the files `s` and `t`.
+// A shelf with the files `s` and `t`.
 fn shelf_with_script(alloc: Global, source: &[u8], script: &[u8]) -> Result<MemShelf, OutOfMemory> {
     let mut shelf = shelf_with(alloc, source)?;
     shelf.put_file("t", script)?;
     Ok(shelf)
 }
 
-/// What these words end with.
+// What these words end with.
 fn end_of<S: Shelf, K: Sink>(
     alloc: Global,
     shelf: &mut S,
@@ -42,7 +42,7 @@ fn end_of<S: Shelf, K: Sink>(
     Ok(top(alloc, owned.as_slice(), shelf, out))
 }
 
-/// Whether these words end with this status and print this text.
+// Whether these words end with this status and print this text.
 fn answers<S: Shelf>(
     alloc: Global,
     shelf: &mut S,
@@ -55,7 +55,7 @@ fn answers<S: Shelf>(
     Ok(ended == status && out.bytes() == text)
 }
 
-/// Whether the map of a source ends with this status and prints this text.
+// Whether the map of a source ends with this status and prints this text.
 fn has_map(alloc: Global, source: &[u8], status: Status, text: &[u8]) -> Result<bool, OutOfMemory> {
     let mut shelf = shelf_with(alloc, source)?;
     let mut out = MemSink::new(alloc);

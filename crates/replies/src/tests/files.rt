@@ -6,7 +6,7 @@ use io_base::OutOfMemory;
 use std::alloc::Global;
 use std::test::Fail;
 
-/// Whether a file of five bytes is loaded whole under this limit.
+// Whether a file of five bytes is loaded whole under this limit.
 fn is_loaded(alloc: Global, limit: u64) -> Result<bool, OutOfMemory> {
     let mut shelf = shelf_with(alloc, "f", b"12345")?;
     Ok(match load_file(alloc, &mut shelf, "f", limit) {

@@ -32,7 +32,7 @@ const REFUSALS: [Row; 11] = [
     (b"\nclk i=@", b"refused t line 2 BadByte col 7\n"),
 ];
 
-/// Whether the bytes of a script for one slice are refused with this text.
+// Whether the bytes of a script for one slice are refused with this text.
 fn is_refused(alloc: Global, bytes: &[u8], text: &[u8]) -> bool {
     if bytes.len() > 100_000 {
         return false;
@@ -57,7 +57,7 @@ fn a_script_has_at_most_65536_lines(rt: HostRuntime) -> Result<(), Fail> {
     Ok(())
 }
 
-/// What `sx` is in the second clock of a script that is loaded for sixteen slices.
+// What `sx` is in the second clock of a script that is loaded for sixteen slices.
 fn second_sx(alloc: Global, bytes: &[u8]) -> Result<Option<u8>, OutOfMemory> {
     let mut shelf = shelf_with(alloc, "t", bytes)?;
     Ok(match load_script(alloc, &mut shelf, "t", 16) {

@@ -10,7 +10,7 @@ use std::test::Fail;
 /// A source, and the text that refuses it as `s`.
 type Row = (&'static [u8], &'static [u8]);
 
-/// Each source is refused with its text.
+// Each source is refused with its text.
 fn check_refusals(rt: &impl Abort, alloc: Global, rows: &[Row]) -> Result<(), Fail> {
     for (source, text) in rows {
         let mut shelf = shelf_with(alloc, "s", source)?;
@@ -22,8 +22,8 @@ fn check_refusals(rt: &impl Abort, alloc: Global, rows: &[Row]) -> Result<(), Fa
     Ok(())
 }
 
-/// Faults of tokens, with their column. The first faulty place of a line comes before any other fault of it, and the first
-/// refused line before the rest.
+/// Faults of tokens, with their column. The first faulty place of a line comes before any other fault of it, and the
+/// first refused line before the rest.
 const LEXICAL: [Row; 6] = [
     (
         b"slices 1\nstart A\nA: NOP R0 @ | goto A\n",
@@ -222,7 +222,7 @@ fn the_first_test_that_fails_is_told(rt: HostRuntime) -> Result<(), Fail> {
     check_refusals(&rt, rt.alloc(), &ORDER)
 }
 
-/// Instructions of which each goes to itself, and this line behind them.
+// Instructions of which each goes to itself, and this line behind them.
 fn self_loops(alloc: Global, count: u32, last: &[u8]) -> Result<Vec<u8>, OutOfMemory> {
     let mut text = Vec::from_slice(alloc, b"slices 1\nstart L0\n")?;
     for number in 0..count {

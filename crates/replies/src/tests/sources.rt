@@ -9,7 +9,7 @@ use std::test::Fail;
 /// A source of one instruction.
 const LOOP: &[u8] = b"slices 1\nstart A\nA: NOP R0 | goto A\n";
 
-/// How many instructions the step that reads a source finds.
+// How many instructions the step that reads a source finds.
 fn instructions_in(alloc: Global, source: &[u8]) -> Result<Option<u16>, OutOfMemory> {
     let mut shelf = shelf_with(alloc, "s", source)?;
     Ok(match load_source(alloc, &mut shelf, "s") {
@@ -31,7 +31,7 @@ fn an_absent_source_is_refused(rt: HostRuntime) -> Result<(), Fail> {
     Ok(())
 }
 
-/// Whether LOOP is told as not read where this read fails.
+// Whether LOOP is told as not read where this read fails.
 fn is_unread(alloc: Global, read: u32) -> Result<bool, OutOfMemory> {
     let mut shelf = shelf_with(alloc, "s", LOOP)?;
     shelf.fail(CallKind::Read, read)?;
@@ -47,7 +47,7 @@ fn a_failing_read_is_told(rt: HostRuntime) -> Result<(), Fail> {
     Ok(())
 }
 
-/// Whether a source of so many comment marks is refused with this text.
+// Whether a source of so many comment marks is refused with this text.
 fn comments_are_refused(alloc: Global, count: usize, text: &[u8]) -> Result<bool, OutOfMemory> {
     let source = vec![in alloc; b'#'; count]?;
     let mut shelf = shelf_with(alloc, "s", &source)?;

@@ -2,13 +2,14 @@
 ghost use Rattle.std.specs.Prelude.{◌≡◌, ◌≤◌, ◌++◌, ◌∷◌, [], length, flat_map, decimal, IfOk, OnOk};
 ghost use Rattle.saved_files.specs.OneFile.{IsWritten};
 
+use super::holds;
 use crate::{begin_file, grow_file, refutation_name, save_file};
 use io_base::{CallKind, Failed, MemShelf, OutOfMemory, Shelf};
 use itoa::Buffer;
 use std::alloc::Global;
 use std::test::Fail;
 
-/// Puts a line with this number in place of what the buffer holds.
+// Puts a line with this number in place of what the buffer holds.
 fn print_number(line: &mut Vec<u8>, number: u64) -> Result<(), OutOfMemory>
     ensures { OnOk result (line.new.items ≡ decimal number ++ 10 ∷ []) }
 {
@@ -18,7 +19,7 @@ fn print_number(line: &mut Vec<u8>, number: u64) -> Result<(), OutOfMemory>
     Ok(())
 }
 
-/// Saves a line for each of these numbers.
+// Saves a line for each of these numbers.
 fn save_numbers<S: Shelf>(
     alloc: Global,
     shelf: &mut S,
@@ -44,41 +45,58 @@ fn save_numbers<S: Shelf>(
     Ok(Ok(()))
 }
 
+/// A call that fails, and what then stands in the file that held `old`. There is no fourth append.
+const FAULTS: [(CallKind, u32, &[u8]); 5] = [
+    (CallKind::Create, 1, b"old"),
+    (CallKind::Append, 1, b"7"),
+    (CallKind::Append, 2, b"7\n4"),
+    (CallKind::Append, 3, b"7\n42\n10"),
+    (CallKind::Append, 4, b"7\n42\n1000\n"),
+];
+
+// A shelf with an old file and one of another name, on which a call is to fail.
+fn old_shelf(alloc: Global, kind: CallKind, number: u32) -> Result<MemShelf, OutOfMemory> {
+    let mut shelf = MemShelf::new(alloc);
+    shelf.put_file("o.ref", b"old")?;
+    shelf.put_file("o.part", b"other")?;
+    shelf.fail(kind, number)?;
+    Ok(shelf)
+}
+
+// Whether lines for three numbers are saved.
+fn saves_numbers(alloc: Global, shelf: &mut MemShelf) -> Result<bool, OutOfMemory> {
+    let name = refutation_name(alloc, "o")?;
+    let saved = save_numbers(alloc, shelf, name.as_str(), &[7, 42, 1000])?;
+    Ok(saved.is_ok())
+}
+
+// Whether the file and the other stand so after the call that fails.
+fn leaves(alloc: Global, kind: CallKind, number: u32, text: &[u8]) -> Result<bool, OutOfMemory> {
+    let mut shelf = old_shelf(alloc, kind, number)?;
+    let saved = saves_numbers(alloc, &mut shelf)?;
+    Ok(saved == (number == 4) && holds(&shelf, "o.ref", text) && holds(&shelf, "o.part", b"other"))
+}
+
 #[test]
 fn what_stands_after_each_append(rt: HostRuntime) -> Result<(), Fail> {
-    let alloc = rt.alloc();
-    let numbers = [7, 42, 1000];
-    let table: [(CallKind, u32, &[u8]); 5] = [
-        (CallKind::Create, 1, b"old"),
-        (CallKind::Append, 1, b"7"),
-        (CallKind::Append, 2, b"7\n4"),
-        (CallKind::Append, 3, b"7\n42\n10"),
-        (CallKind::Append, 4, b"7\n42\n1000\n"),
-    ];
-    let name = refutation_name(alloc, "o")?;
-    for (kind, number, text) in table {
-        let mut shelf = MemShelf::new(alloc);
-        shelf.put_file("o.ref", b"old")?;
-        shelf.put_file("o.part", b"other")?;
-        shelf.fail(kind, number)?;
-        let saved = save_numbers(alloc, &mut shelf, name.as_str(), &numbers)?;
-        assert_eq!(rt; saved.is_ok(), number == 4);
-        assert_eq!(rt; shelf.file("o.ref").unwrap_or(b"absent"), text);
-        assert_eq!(rt;
-            shelf.file("o.part").unwrap_or(b"absent"),
-            b"other".as_slice()
-        );
+    for (kind, number, text) in &FAULTS {
+        assert!(rt; leaves(rt.alloc(), *kind, *number, text)?, "{text:?}");
     }
     Ok(())
+}
+
+// Whether the bytes are saved as the whole of a file.
+fn saves(shelf: &mut MemShelf, name: &str, bytes: &[u8]) -> bool
+    requires { length name.now ≤ 220 }
+{
+    save_file(shelf, name, bytes) == Ok(()) && holds(shelf, name, bytes)
 }
 
 #[test]
 fn an_old_file_is_replaced(rt: HostRuntime) -> Result<(), Fail> {
     let mut shelf = MemShelf::new(rt.alloc());
     shelf.put_file("a", b"old and long")?;
-    assert_eq!(rt; save_file(&mut shelf, "a", b"new"), Ok(()));
-    assert_eq!(rt; shelf.file("a").unwrap_or(b"absent"), b"new".as_slice());
-    assert_eq!(rt; save_file(&mut shelf, "b", b""), Ok(()));
-    assert_eq!(rt; shelf.file("b").unwrap_or(b"absent"), b"".as_slice());
+    assert!(rt; saves(&mut shelf, "a", b"new"));
+    assert!(rt; saves(&mut shelf, "b", b""));
     Ok(())
 }

@@ -33,4 +33,4 @@ returns-in-Err-clause-ends g c =
     let asked = c.args.asked in
     let old = g.S.Shelf.state c.args.shelf.now in
     says_ends (PlacedAnswer asked.out.now asked.script.now c.args.script_bytes.now asked.clocks (graph_of c.args.program.now) c.args.placement.now old old)
-    status.NoMemory no_memory (g.K.Sink.state c.args.out.now) (g.K.Sink.state c.say.new.out) c.say.result (inl (record { status_is = refl; text_is = refl; same = refl })) c.say.ensures.says
+    status.NoMemory no_memory (g.K.Sink.state c.args.out.now) (g.K.Sink.state c.say_no_memory.new.out) c.say_no_memory.result (inl (record { status_is = refl; text_is = refl; same = refl })) c.say_no_memory.ensures.says

@@ -14,7 +14,7 @@ returns-in-Err-clause-ends g c =
     let asked = c.args.asked in
     let old = g.S.Shelf.state c.args.shelf.now in
     says_ends (UnlessUnsaved old old (FilesAnswer asked.out.now asked.script.now c.args.bytes.now asked.clocks c.args.files.now old old))
-    status.NoMemory no_memory (g.K.Sink.state c.args.out.now) (g.K.Sink.state c.say.new.out) c.say.result (inl (record { status_is = refl; text_is = refl; same = refl })) c.say.ensures.says
+    status.NoMemory no_memory (g.K.Sink.state c.args.out.now) (g.K.Sink.state c.say_no_memory.new.out) c.say_no_memory.result (inl (record { status_is = refl; text_is = refl; same = refl })) c.say_no_memory.ensures.says
 
 pub returns-in-Ok-save_all-clause-ends : goal.returns-in-Ok-save_all-clause-ends
 returns-in-Ok-save_all-clause-ends g c =

@@ -21,4 +21,4 @@ pub returns-in-Err-OutOfMemory-clause-ends : goal.returns-in-Err-OutOfMemory-cla
 returns-in-Err-OutOfMemory-clause-ends g c =
     let P : RunFault → Type 0 = λ fault. IsCause (IsFirstBadShift c.args.saved.now.words (declaration_of c.args.saved.now.decl)) (g.K.Sink.state c.args.out.now) (g.K.Sink.state c.run.new.sink) fault in
     trace_wants (IsRun (declaration_of c.args.saved.now.decl) c.args.saved.now.words c.args.script.now c.args.clocks)
-    (g.K.Sink.state c.args.out.now) (g.K.Sink.state c.run.new.sink) (g.K.Sink.state c.say.new.out) c.say.result (subst P c.in-Err-OutOfMemory.field-0-is c.in-Err-OutOfMemory.ensures.cause) c.say.ensures.says
+    (g.K.Sink.state c.args.out.now) (g.K.Sink.state c.run.new.sink) (g.K.Sink.state c.say_no_memory.new.out) c.say_no_memory.result (subst P c.in-Err-OutOfMemory.field-0-is c.in-Err-OutOfMemory.ensures.cause) c.say_no_memory.ensures.says

@@ -1,6 +1,6 @@
 use Rattle.std.proofs.Common.{refl}
-use Rattle.clause_words.specs.Shape.{one, any_of, no_two}
-use Rattle.clause_words.specs.Clauses.{cell_clauses}
+use Rattle.placement_clauses.specs.Shape.{one, any_of, no_two}
+use Rattle.placement_clauses.specs.Clauses.{cell_clauses}
 use Rattle.clause_encode.proofs.AddsLemmas.{Adds-then, Adds-same}
 use Rattle.clause_encode.proofs.cells.add_cell.Goals as goal
 

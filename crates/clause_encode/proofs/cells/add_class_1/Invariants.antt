@@ -1,4 +1,4 @@
-use Rattle.clause_words.specs.Clauses.{class_1}
+use Rattle.placement_clauses.specs.Clauses.{class_1}
 use Rattle.clause_encode.specs.Adds.{Adds}
 use Rattle.clause_encode.proofs.cells.add_class_1.Given as goal
 

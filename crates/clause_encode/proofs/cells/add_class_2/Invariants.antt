@@ -1,5 +1,5 @@
-use Rattle.clause_words.specs.Upto.{upto}
-use Rattle.clause_words.specs.Clauses.{apart_clauses, apart_from_earlier}
+use Rattle.placement_clauses.specs.Upto.{upto}
+use Rattle.placement_clauses.specs.Clauses.{apart_clauses, apart_from_earlier}
 use Rattle.clause_encode.specs.Adds.{Adds}
 use Rattle.clause_encode.proofs.cells.add_class_2.Given as goal
 

@@ -1,8 +1,8 @@
 use Rattle.std.proofs.Common.{◌≤◌, ◌+◌, ◌-◌, ◌*◌, ◌∙◌, sym, subst, arith, length, List}
 use Rattle.flow_graph.specs.declared.pinning.Pin.{Pin}
 use Rattle.flow_graph.specs.Graph.{graph_of}
-use Rattle.clause_words.proofs.PinLemmas.{few-pins_of}
-use Rattle.clause_words.proofs.CountLemmas.{length-class_3, few-product}
+use Rattle.placement_clauses.proofs.PinLemmas.{few-pins_of}
+use Rattle.placement_clauses.proofs.CountLemmas.{length-class_3, few-product}
 use Rattle.clause_encode.proofs.counting.class_3_count.Goals as goal
 
 pub overflow_cast-pins : goal.overflow_cast-pins

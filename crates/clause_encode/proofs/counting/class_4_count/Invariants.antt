@@ -1,7 +1,7 @@
 use Rattle.std.proofs.Common.{◌≡◌, ◌≤◌, ◌*◌, length}
 use Rattle.flow_graph.specs.Graph.{graph_of}
-use Rattle.clause_words.specs.Upto.{upto, at_place}
-use Rattle.clause_words.specs.Clauses.{instr_clauses}
+use Rattle.placement_clauses.specs.Upto.{upto, at_place}
+use Rattle.placement_clauses.specs.Clauses.{instr_clauses}
 use Rattle.clause_encode.proofs.counting.class_4_count.Given as goal
 
 -- the instructions so far

@@ -1,8 +1,8 @@
 use Rattle.std.proofs.Common.{◌∙◌, ap, sym, arith, length}
-use Rattle.clause_words.specs.Upto.{at_place}
-use Rattle.clause_words.specs.Clauses.{instr_traps, trap_clauses}
-use Rattle.clause_words.proofs.UptoLemmas.{upto-none}
-use Rattle.clause_words.proofs.CountLemmas.{length-each_more}
+use Rattle.placement_clauses.specs.Upto.{at_place}
+use Rattle.placement_clauses.specs.Clauses.{instr_traps, trap_clauses}
+use Rattle.placement_clauses.proofs.UptoLemmas.{upto-none}
+use Rattle.placement_clauses.proofs.CountLemmas.{length-each_more}
 use Rattle.clause_encode.proofs.counting.class_5_count.Goals as goal
 
 pub loop-s-init : goal.loop-s-init

@@ -1,6 +1,6 @@
 use Rattle.std.proofs.Common.{◌+◌, ◌-◌, ◌*◌, ◌/◌, ◌∙◌, sym}
 use Rattle.flow_graph.specs.Graph.{graph_of}
-use Rattle.clause_words.proofs.CountLemmas.{length-clauses}
+use Rattle.placement_clauses.proofs.CountLemmas.{length-clauses}
 use Rattle.clause_encode.proofs.counting.clause_count.Goals as goal
 
 pub returns : goal.returns

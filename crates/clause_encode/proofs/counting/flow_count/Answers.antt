@@ -1,10 +1,10 @@
 use Rattle.std.proofs.Common.{◌∙◌, ap, sym, arith, length}
-use Rattle.mcu_jumps.specs.declared.codes.Kind.{Kind}
-use Rattle.clause_words.specs.Upto.{each_of}
-use Rattle.clause_words.specs.FirstLabel.{first_real, first_label}
-use Rattle.clause_words.specs.Clauses.{target_clauses, flow_clauses}
-use Rattle.clause_words.proofs.EachTest.{flow-test}
-use Rattle.clause_words.proofs.CountLemmas.{length-goto, length-enable, length-test}
+use Rattle.mcu_jumps.specs.declared.kinds.Kind.{Kind}
+use Rattle.placement_clauses.specs.Upto.{each_of}
+use Rattle.placement_clauses.specs.FirstLabel.{first_real, first_label}
+use Rattle.placement_clauses.specs.Clauses.{target_clauses, flow_clauses}
+use Rattle.placement_clauses.proofs.EachTest.{flow-test}
+use Rattle.placement_clauses.proofs.CountLemmas.{length-goto, length-enable, length-test}
 use Rattle.clause_encode.proofs.counting.flow_count.Goals as goal
 
 pub returns-in-Goto-clause-count : goal.returns-in-Goto-clause-count

@@ -1,7 +1,7 @@
 use Rattle.std.proofs.Common.{◌∙◌, ap, sym, length}
-use Rattle.clause_words.specs.Upto.{each_of}
-use Rattle.clause_words.specs.FirstLabel.{first_real, first_label}
-use Rattle.clause_words.specs.Clauses.{trap_outcome, trap_clauses}
+use Rattle.placement_clauses.specs.Upto.{each_of}
+use Rattle.placement_clauses.specs.FirstLabel.{first_real, first_label}
+use Rattle.placement_clauses.specs.Clauses.{trap_outcome, trap_clauses}
 use Rattle.clause_encode.proofs.counting.instr_traps_count.Goals as goal
 
 pub returns-clause-count : goal.returns-clause-count

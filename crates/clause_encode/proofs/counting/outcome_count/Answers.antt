@@ -1,5 +1,5 @@
 use Rattle.std.proofs.Common.{◌+◌, ◌∙◌, ap}
-use Rattle.clause_words.proofs.CountLemmas.{length-outcome_other}
+use Rattle.placement_clauses.proofs.CountLemmas.{length-outcome_other}
 use Rattle.clause_encode.proofs.counting.outcome_count.Goals as goal
 
 pub returns-else-o-first-clause-count : goal.returns-else-o-first-clause-count

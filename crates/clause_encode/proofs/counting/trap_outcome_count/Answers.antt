@@ -1,6 +1,6 @@
 use Rattle.std.proofs.Common.{◌∙◌, ap, length, ℕ, Option}
-use Rattle.clause_words.specs.Clauses.{trap_outcome}
-use Rattle.clause_words.proofs.CountLemmas.{length-free_landing}
+use Rattle.placement_clauses.specs.Clauses.{trap_outcome}
+use Rattle.placement_clauses.proofs.CountLemmas.{length-free_landing}
 use Rattle.clause_encode.proofs.counting.trap_outcome_count.Goals as goal
 
 pub returns-in-None-clause-count : goal.returns-in-None-clause-count

@@ -1,6 +1,6 @@
 use Rattle.std.proofs.Common.{◌∙◌, ap, sym}
 use Rattle.std.specs.Prelude.{if◌then◌else◌}
-use Rattle.clause_words.proofs.CountLemmas.{length-trap_pair}
+use Rattle.placement_clauses.proofs.CountLemmas.{length-trap_pair}
 use Rattle.clause_encode.proofs.counting.trap_pair_count.Goals as goal
 
 pub returns-then-keeps_half-clause-count : goal.returns-then-keeps_half-clause-count

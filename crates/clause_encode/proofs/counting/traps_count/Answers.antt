@@ -1,9 +1,9 @@
 use Rattle.std.proofs.Common.{ap, arith, length, None}
 use Rattle.std.proofs.lemmas.Option.{slice_get-get_or}
-use Rattle.clause_words.specs.Upto.{at_place}
-use Rattle.clause_words.specs.Clauses.{trap_outcome}
-use Rattle.clause_words.proofs.UptoLemmas.{upto-none}
-use Rattle.clause_words.proofs.CountLemmas.{length-each_more}
+use Rattle.placement_clauses.specs.Upto.{at_place}
+use Rattle.placement_clauses.specs.Clauses.{trap_outcome}
+use Rattle.placement_clauses.proofs.UptoLemmas.{upto-none}
+use Rattle.placement_clauses.proofs.CountLemmas.{length-each_more}
 use Rattle.clause_encode.proofs.counting.traps_count.Goals as goal
 
 pub loop-target-init : goal.loop-target-init

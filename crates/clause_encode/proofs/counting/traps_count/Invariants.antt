@@ -1,6 +1,6 @@
 use Rattle.std.proofs.Common.{◌≡◌, ◌≤◌, ◌*◌, length}
-use Rattle.clause_words.specs.Upto.{upto, at_place}
-use Rattle.clause_words.specs.Clauses.{trap_outcome}
+use Rattle.placement_clauses.specs.Upto.{upto, at_place}
+use Rattle.placement_clauses.specs.Clauses.{trap_outcome}
 use Rattle.clause_encode.proofs.counting.traps_count.Given as goal
 
 -- the targets so far

@@ -3,29 +3,29 @@ use Rattle.std.specs.Prelude.{slice_get}
 use Rattle.std.proofs.lemmas.List.{length_push}
 use Rattle.mcu_jumps.specs.Position.{Position}
 use Rattle.flow_graph.specs.Graph.{graph_of}
-use Rattle.clause_words.specs.Truth.{AllHold, value_in}
-use Rattle.clause_words.specs.Shape.{one, any_of}
-use Rattle.clause_words.specs.PinCells.{HavePinCells}
-use Rattle.clause_words.proofs.DecodeLemmas.{IsReadCell, class_1-rows, read-from, read-more, legal-from, true-cells}
+use Rattle.placement_clauses.specs.Truth.{AllHold, truth_in}
+use Rattle.placement_clauses.specs.Shape.{one, any_of}
+use Rattle.placement_clauses.specs.PinCells.{HavePinCells}
+use Rattle.placement_clauses.proofs.DecodeLemmas.{IsReadCell, class_1-rows, read-from, read-more, legal-from, true-cells}
 use Rattle.clause_encode.proofs.decoding.read_cells.Goals as goal
 
 pub first_true-row-requires-clause-some : goal.first_true-row-requires-clause-some
 first_true-row-requires-clause-some c =
-    let a = value_in c.args.model.now in
+    let a = truth_in c.args.model.now in
     let g = graph_of c.args.program.now in
     let lt : c.loop-label.label < length g.instrs = omega (arith, c.len.ensures, c.from-labels.ensures) in
     subst (λ (v : ℕ). AllHold a (one (any_of 32 v))) (sym c.row_var.ensures) (class_1-rows a g c.loop-label.label lt c.requires.holds).0
 
 pub first_true-col-requires-clause-some : goal.first_true-col-requires-clause-some
 first_true-col-requires-clause-some c =
-    let a = value_in c.args.model.now in
+    let a = truth_in c.args.model.now in
     let g = graph_of c.args.program.now in
     let lt : c.loop-label.label < length g.instrs = omega (arith, c.len.ensures, c.from-labels.ensures) in
     subst (λ (v : ℕ). AllHold a (one (any_of 16 v))) (sym c.col_var.ensures) (class_1-rows a g c.loop-label.label lt c.requires.holds).1
 
 pub loop-label-preserved : goal.loop-label-preserved
 loop-label-preserved c =
-    let a = value_in c.args.model.now in
+    let a = truth_in c.args.model.now in
     let i = c.loop-label.label in
     let p : Position = record { row = c.first_true-row.result; col = c.first_true-col.result } in
     let read : IsReadCell a i p = record {
@@ -44,10 +44,10 @@ loop-label-preserved c =
 
 pub returns-clause-legal : goal.returns-clause-legal
 returns-clause-legal c =
-    let a = value_in c.args.model.now in
+    let a = truth_in c.args.model.now in
     let g = graph_of c.args.program.now in
     let count : length c.loop-label.cells.items ≡ length g.instrs = omega (arith, c.len.ensures, c.from-labels.ensures, c.loop-label.invariant.count) in
     legal-from a g c.loop-label.cells.items c.args.program.now.valid (subst HavePinCells (c.as_slice.ensures ∙ c.pins.ensures) c.pin_cells.ensures) (read-from a g c.loop-label.cells.items c.requires.holds count c.loop-label.invariant.cells) c.requires.holds
 
 pub returns-clause-decodes : goal.returns-clause-decodes
-returns-clause-decodes c = true-cells (value_in c.args.model.now) c.loop-label.cells.items c.loop-label.invariant.cells
+returns-clause-decodes c = true-cells (truth_in c.args.model.now) c.loop-label.cells.items c.loop-label.invariant.cells

@@ -1,11 +1,11 @@
 use Rattle.std.proofs.Common.{◌∙◌, ap, sym, refl, subst, []}
 use Rattle.clause_base.specs.Clauses.{Clauses}
 use Rattle.flow_graph.specs.Graph.{graph_of}
-use Rattle.clause_words.specs.Truth.{AllHold, value_in}
-use Rattle.clause_words.specs.Number.{var_count_of}
-use Rattle.clause_words.specs.Clauses.{class_1, class_2, clauses_of}
-use Rattle.clause_words.specs.Meaning.{meaning}
-use Rattle.clause_words.proofs.MeaningLemmas.{meaning-sound}
+use Rattle.placement_clauses.specs.Truth.{AllHold, truth_in}
+use Rattle.placement_clauses.specs.Number.{var_count_of}
+use Rattle.placement_clauses.specs.Clauses.{class_1, class_2, clauses_of}
+use Rattle.placement_clauses.specs.Meaning.{meaning}
+use Rattle.placement_clauses.proofs.MeaningLemmas.{meaning-sound}
 use Rattle.clause_encode.proofs.AddsLemmas.{Adds-then, Adds-same, Adds-all}
 use Rattle.clause_encode.proofs.encoding.encode.Goals as goal
 
@@ -31,4 +31,4 @@ returns-clause-clauses c =
 pub returns-clause-sound : goal.returns-clause-sound
 returns-clause-sound c = λ place legal.
     let g = graph_of c.args.program.now in
-    subst (λ (list : Clauses). AllHold (value_in (meaning g place)) list.clauses) (sym (returns-clause-clauses c)) (meaning-sound g place c.args.program.now.valid legal)
+    subst (λ (list : Clauses). AllHold (truth_in (meaning g place)) list.clauses) (sym (returns-clause-clauses c)) (meaning-sound g place c.args.program.now.valid legal)

@@ -1,6 +1,6 @@
 use Rattle.std.proofs.Common.{◌≡◌, ◌∙◌, ap, sym, arith, true, false, Some, None, below_more}
 use Rattle.std.proofs.lemmas.Option.{slice_get-get_or}
-use Rattle.clause_words.proofs.FirstReal.{first-is, all-traps, is-None}
+use Rattle.placement_clauses.proofs.FirstReal.{first-is, all-traps, is-None}
 use Rattle.clause_encode.proofs.first_label.first_label_of.Goals as goal
 
 pub returns-in-Some-clause-outcome : goal.returns-in-Some-clause-outcome

@@ -1,7 +1,7 @@
 use Rattle.std.proofs.Common.{◌∙◌, ap, sym, Option, [], length}
 use Rattle.std.specs.Option.{option_map_or}
 use Rattle.flow_graph.specs.declared.instructions.Instr.{Instr}
-use Rattle.clause_words.specs.Clauses.{instr_clauses}
+use Rattle.placement_clauses.specs.Clauses.{instr_clauses}
 use Rattle.clause_encode.proofs.AddsLemmas.{Adds-upto_none, Adds-upto_more, Adds-same}
 use Rattle.clause_encode.proofs.flows.add_class_4.Goals as goal
 

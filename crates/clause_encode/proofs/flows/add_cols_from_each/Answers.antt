@@ -1,6 +1,6 @@
 use Rattle.std.proofs.Common.{[], ◌∷◌, ◌∙◌, ap}
-use Rattle.clause_words.specs.Shape.{one}
-use Rattle.clause_words.specs.Number.{plus, minus, col_var}
+use Rattle.placement_clauses.specs.Shape.{one}
+use Rattle.placement_clauses.specs.Number.{plus, minus, col_var}
 use Rattle.clause_encode.proofs.AddsLemmas.{Adds-upto_none, Adds-upto_more, Adds-same}
 use Rattle.clause_encode.proofs.flows.add_cols_from_each.Goals as goal
 

@@ -1,11 +1,11 @@
 use Rattle.std.proofs.Common.{◌∙◌, ◌++◌, ap, sym}
-use Rattle.mcu_jumps.specs.declared.codes.Kind.{Kind}
-use Rattle.mcu_jumps.specs.declared.codes.Kind.TheVariants as kind
-use Rattle.clause_words.specs.Number.{col_var}
-use Rattle.clause_words.specs.Shape.{same}
-use Rattle.clause_words.specs.FirstLabel.{first_real, first_label}
-use Rattle.clause_words.specs.Clauses.{at_clauses, goto_clauses, reach_clauses, test_clauses, flow_clauses}
-use Rattle.clause_words.proofs.EachTest.{flow-test}
+use Rattle.mcu_jumps.specs.declared.kinds.Kind.{Kind}
+use Rattle.mcu_jumps.specs.declared.kinds.Kind.TheVariants as kind
+use Rattle.placement_clauses.specs.Number.{col_var}
+use Rattle.placement_clauses.specs.Shape.{same}
+use Rattle.placement_clauses.specs.FirstLabel.{first_real, first_label}
+use Rattle.placement_clauses.specs.Clauses.{at_clauses, goto_clauses, reach_clauses, test_clauses, flow_clauses}
+use Rattle.placement_clauses.proofs.EachTest.{flow-test}
 use Rattle.clause_encode.proofs.AddsLemmas.{OnOk-Adds}
 use Rattle.clause_encode.proofs.flows.add_flow.Goals as goal
 

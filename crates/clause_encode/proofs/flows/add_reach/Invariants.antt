@@ -1,5 +1,5 @@
-use Rattle.clause_words.specs.Upto.{upto}
-use Rattle.clause_words.specs.Clauses.{reach_clause}
+use Rattle.placement_clauses.specs.Upto.{upto}
+use Rattle.placement_clauses.specs.Clauses.{reach_clause}
 use Rattle.clause_encode.specs.Adds.{Adds}
 use Rattle.clause_encode.proofs.flows.add_reach.Given as goal
 

@@ -1,5 +1,5 @@
-use Rattle.clause_words.specs.Upto.{upto, at_place}
-use Rattle.clause_words.specs.Clauses.{target_clauses}
+use Rattle.placement_clauses.specs.Upto.{upto, at_place}
+use Rattle.placement_clauses.specs.Clauses.{target_clauses}
 use Rattle.clause_encode.specs.Adds.{Adds}
 use Rattle.clause_encode.proofs.flows.add_targets.Given as goal
 

@@ -1,7 +1,7 @@
 use Rattle.std.proofs.Common.{◌≡◌, ◌≤◌, [], ◌∷◌, ◌∙◌, ap, arith}
-use Rattle.clause_words.specs.Number.{minus}
-use Rattle.clause_words.specs.Clauses.{not_in_row}
-use Rattle.clause_words.specs.Shape.{one}
+use Rattle.placement_clauses.specs.Number.{minus}
+use Rattle.placement_clauses.specs.Clauses.{not_in_row}
+use Rattle.placement_clauses.specs.Shape.{one}
 use Rattle.clause_encode.proofs.AddsLemmas.{Adds-between_none, Adds-between_more, Adds-between_whole, Adds-same}
 use Rattle.clause_encode.proofs.givens.add_bound.Goals as goal
 

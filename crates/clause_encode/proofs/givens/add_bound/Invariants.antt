@@ -1,5 +1,5 @@
-use Rattle.clause_words.specs.Upto.{between}
-use Rattle.clause_words.specs.Clauses.{not_in_row}
+use Rattle.placement_clauses.specs.Upto.{between}
+use Rattle.placement_clauses.specs.Clauses.{not_in_row}
 use Rattle.clause_encode.specs.Adds.{Adds}
 use Rattle.clause_encode.proofs.givens.add_bound.Given as goal
 

@@ -1,5 +1,5 @@
-use Rattle.clause_words.specs.Upto.{upto}
-use Rattle.clause_words.specs.Clauses.{bound_clauses}
+use Rattle.placement_clauses.specs.Upto.{upto}
+use Rattle.placement_clauses.specs.Clauses.{bound_clauses}
 use Rattle.clause_encode.specs.Adds.{Adds}
 use Rattle.clause_encode.proofs.givens.add_bounds.Given as goal
 

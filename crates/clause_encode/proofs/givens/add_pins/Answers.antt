@@ -3,7 +3,7 @@ use Rattle.std.specs.Prelude.{slice_get}
 use Rattle.std.specs.Option.{option_map_or}
 use Rattle.std.proofs.lemmas.Option.{slice_get_read}
 use Rattle.flow_graph.specs.declared.pinning.Pin.{Pin}
-use Rattle.clause_words.specs.Clauses.{at_clauses, pin_clauses}
+use Rattle.placement_clauses.specs.Clauses.{at_clauses, pin_clauses}
 use Rattle.clause_encode.proofs.AddsLemmas.{Adds-upto_none, Adds-upto_more, Adds-same}
 use Rattle.clause_encode.proofs.givens.add_pins.Goals as goal
 

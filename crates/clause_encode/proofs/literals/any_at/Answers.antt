@@ -1,6 +1,6 @@
 use Rattle.std.proofs.Common.{arith, rules}
 use Rattle.std.proofs.lemmas.Grind.{common_steps}
-use Rattle.clause_words.proofs.UptoLemmas.{upto-none, upto-more}
+use Rattle.placement_clauses.proofs.UptoLemmas.{upto-none, upto-more}
 use Rattle.clause_encode.proofs.literals.any_at.Goals as goal
 
 pub loop-k-init : goal.loop-k-init

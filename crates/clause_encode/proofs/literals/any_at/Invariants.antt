@@ -1,5 +1,5 @@
 use Rattle.std.proofs.Common.{◌≡◌}
-use Rattle.clause_words.specs.Shape.{any_of}
+use Rattle.placement_clauses.specs.Shape.{any_of}
 use Rattle.clause_encode.proofs.literals.any_at.Given as goal
 
 abbrev pub invariant-loop-k : goal.invariant-loop-k

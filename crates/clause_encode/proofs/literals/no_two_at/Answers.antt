@@ -1,9 +1,9 @@
 use Rattle.std.proofs.Common.{◌≡◌, ◌+◌, ◌-◌, ◌∙◌, [], ◌∷◌, length, ap, arith}
-use Rattle.clause_words.specs.Upto.{upto}
-use Rattle.clause_words.specs.Number.{pairs_below}
-use Rattle.clause_words.specs.Shape.{no_two, not_with_later}
-use Rattle.clause_words.proofs.UptoLemmas.{upto-none}
-use Rattle.clause_words.proofs.LengthLemmas.{length-more, length-later, length-no_two, no_two-at}
+use Rattle.placement_clauses.specs.Upto.{upto}
+use Rattle.placement_clauses.specs.Number.{pairs_below}
+use Rattle.placement_clauses.specs.Shape.{no_two, not_with_later}
+use Rattle.placement_clauses.proofs.UptoLemmas.{upto-none}
+use Rattle.placement_clauses.proofs.LengthLemmas.{length-more, length-later, length-no_two, no_two-at}
 use Rattle.clause_encode.proofs.PlaceLemmas.{at_lits}
 use Rattle.clause_encode.proofs.literals.no_two_at.Goals as goal
 

@@ -1,6 +1,6 @@
 use Rattle.std.proofs.Common.{◌≡◌, ◌+◌, length}
-use Rattle.clause_words.specs.Upto.{upto}
-use Rattle.clause_words.specs.Shape.{not_with_later}
+use Rattle.placement_clauses.specs.Upto.{upto}
+use Rattle.placement_clauses.specs.Shape.{not_with_later}
 use Rattle.clause_encode.proofs.literals.no_two_at.Given as goal
 
 abbrev pub invariant-loop-r : goal.invariant-loop-r

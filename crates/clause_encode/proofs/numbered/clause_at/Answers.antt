@@ -2,9 +2,9 @@ use Rattle.std.proofs.Common.{◌≡◌, ◌≤◌, ◌+◌, ◌-◌, ◌*◌, �
 use Rattle.std.specs.Prelude.{slice_get}
 use Rattle.std.proofs.lemmas.List.{length-append}
 use Rattle.flow_graph.specs.Graph.{graph_of}
-use Rattle.clause_words.specs.Number.{pairs_below}
-use Rattle.clause_words.specs.Clauses.{class_1, class_2, class_3, class_4, class_5, clauses_of}
-use Rattle.clause_words.proofs.LengthLemmas.{length-class_1, length-class_2}
+use Rattle.placement_clauses.specs.Number.{pairs_below}
+use Rattle.placement_clauses.specs.Clauses.{class_1, class_2, class_3, class_4, class_5, clauses_of}
+use Rattle.placement_clauses.proofs.LengthLemmas.{length-class_1, length-class_2}
 use Rattle.clause_encode.proofs.PlaceLemmas.{at_piece, at_front, at_back}
 use Rattle.clause_encode.proofs.numbered.clause_at.Goals as goal
 

@@ -1,4 +1,4 @@
-use Rattle.clause_words.specs.Shape.{same}
+use Rattle.placement_clauses.specs.Shape.{same}
 use Rattle.clause_encode.specs.Adds.{Adds}
 use Rattle.clause_encode.proofs.shapes.add_same.Given as goal
 

@@ -1,5 +1,5 @@
 use Rattle.std.proofs.Common.{[], ◌∷◌}
-use Rattle.clause_words.specs.Shape.{one}
+use Rattle.placement_clauses.specs.Shape.{one}
 use Rattle.clause_encode.proofs.AddsLemmas.{Adds-upto_none, Adds-upto_more, Adds-same}
 use Rattle.clause_encode.proofs.shapes.add_same_where.Goals as goal
 

@@ -1,4 +1,4 @@
-use Rattle.clause_words.specs.Shape.{same_where}
+use Rattle.placement_clauses.specs.Shape.{same_where}
 use Rattle.clause_encode.specs.Adds.{Adds}
 use Rattle.clause_encode.proofs.shapes.add_same_where.Given as goal
 

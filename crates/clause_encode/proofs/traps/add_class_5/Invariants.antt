@@ -1,5 +1,5 @@
-use Rattle.clause_words.specs.Upto.{upto, at_place}
-use Rattle.clause_words.specs.Clauses.{instr_traps}
+use Rattle.placement_clauses.specs.Upto.{upto, at_place}
+use Rattle.placement_clauses.specs.Clauses.{instr_traps}
 use Rattle.std.proofs.Common.{length}
 use Rattle.flow_graph.specs.Graph.{graph_of}
 use Rattle.clause_encode.specs.Adds.{Adds}

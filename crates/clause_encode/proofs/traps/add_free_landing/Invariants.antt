@@ -1,5 +1,5 @@
-use Rattle.clause_words.specs.Upto.{upto}
-use Rattle.clause_words.specs.Clauses.{trap_of}
+use Rattle.placement_clauses.specs.Upto.{upto}
+use Rattle.placement_clauses.specs.Clauses.{trap_of}
 use Rattle.clause_encode.specs.Adds.{Adds}
 use Rattle.clause_encode.proofs.traps.add_free_landing.Given as goal
 

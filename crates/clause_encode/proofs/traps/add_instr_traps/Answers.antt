@@ -1,7 +1,7 @@
 use Rattle.std.proofs.Common.{◌∙◌, ap}
-use Rattle.clause_words.specs.Upto.{each_of}
-use Rattle.clause_words.specs.FirstLabel.{first_real, first_label}
-use Rattle.clause_words.specs.Clauses.{trap_outcome, trap_clauses}
+use Rattle.placement_clauses.specs.Upto.{each_of}
+use Rattle.placement_clauses.specs.FirstLabel.{first_real, first_label}
+use Rattle.placement_clauses.specs.Clauses.{trap_outcome, trap_clauses}
 use Rattle.clause_encode.proofs.AddsLemmas.{OnOk-Adds}
 use Rattle.clause_encode.proofs.traps.add_instr_traps.Goals as goal
 

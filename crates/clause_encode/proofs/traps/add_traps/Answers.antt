@@ -1,7 +1,7 @@
 use Rattle.std.proofs.Common.{ap, sym, ℕ, Option, None, []}
 use Rattle.std.specs.Option.{option_map_or}
 use Rattle.std.proofs.lemmas.Option.{slice_get-get_or}
-use Rattle.clause_words.specs.Clauses.{trap_outcome}
+use Rattle.placement_clauses.specs.Clauses.{trap_outcome}
 use Rattle.clause_encode.proofs.AddsLemmas.{Adds-upto_none, Adds-upto_more, Adds-same}
 use Rattle.clause_encode.proofs.traps.add_traps.Goals as goal
 

@@ -1,5 +1,5 @@
-use Rattle.clause_words.specs.Upto.{upto, at_place}
-use Rattle.clause_words.specs.Clauses.{trap_outcome}
+use Rattle.placement_clauses.specs.Upto.{upto, at_place}
+use Rattle.placement_clauses.specs.Clauses.{trap_outcome}
 use Rattle.clause_encode.specs.Adds.{Adds}
 use Rattle.clause_encode.proofs.traps.add_traps.Given as goal
 

@@ -1,5 +1,5 @@
 use Rattle.std.proofs.Common.{◌≡◌, length}
-use Rattle.micro_asm.specs.Statements.{settings_form, with_settings}
+use Rattle.micro_asm.specs.SourceLines.{settings_form, with_settings}
 use Rattle.micro_asm.proofs.instruction_form.settings_form.Given as goal
 
 abbrev pub invariant-loop-setting : goal.invariant-loop-setting

@@ -18,4 +18,4 @@ pub returns-in-Err-clause-ends : goal.returns-in-Err-clause-ends
 returns-in-Err-clause-ends g c =
     let shelf = g.S.Shelf.state c.args.shelf.now in
     wants_ends (SavesOrCannot (refuted_files c.args.name.now (refutation_text c.args.clauses c.args.lines.now)) status.Refuted (refuted_line (length c.args.lines.now)) shelf shelf) shelf
-    (g.K.Sink.state c.args.out.now) (g.K.Sink.state c.say.new.out) c.say.result c.say.ensures.says
+    (g.K.Sink.state c.args.out.now) (g.K.Sink.state c.say_no_memory.new.out) c.say_no_memory.result c.say_no_memory.ensures.says

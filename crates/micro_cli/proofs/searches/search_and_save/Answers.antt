@@ -4,10 +4,10 @@ use Rattle.std.specs.Prelude.{All}
 use Rattle.clause_base.specs.Clauses.{IsClause}
 use Rattle.clause_base.specs.Refutation.{Refutes}
 use Rattle.clause_base.specs.Spent.{Spent}
-use Rattle.clause_base.specs.declared.log.Line.{Line}
-use Rattle.clause_words.specs.Clauses.{clauses_of}
+use Rattle.clause_base.specs.declared.line.Line.{Line}
+use Rattle.placement_clauses.specs.Clauses.{clauses_of}
 use Rattle.clause_encode.specs.PlacementList.{list_of}
-use Rattle.placer.specs.Placing.{HasNoPlacement, Stands}
+use Rattle.placer.specs.Placing.{HasNoPlacement, PlacingStands}
 use Rattle.placer.specs.declared.placing.Placed.{Placed}
 use Rattle.ref_text.specs.Text.{refutation_text, part_text}
 use Rattle.saved_files.specs.FilesOfAnswers.{refuted_files, undecided_files}
@@ -29,7 +29,7 @@ save_refutation-requires-clause-numbers g c =
     let graph = graph_of c.args.program.now in
     let log = c.in-Ok-Refuted.log in
     let told : Refutes (list_of graph) log × (length log ≤ c.from.result + 1) × HasNoPlacement graph =
-    subst (λ (p : Placed). Stands graph c.from.result p) c.in-Ok-Refuted.field-0-is c.in-Ok-Refuted.ensures.stands in
+    subst (λ (p : Placed). PlacingStands graph c.from.result p) c.in-Ok-Refuted.field-0-is c.in-Ok-Refuted.ensures.stands in
     let same : length c.as_slice.result.now ≡ length log = ap length c.as_slice.ensures in
     omega (arith, few_clauses c.args.program.now, c.requires.conflicts, c.from.ensures, c.clause_count-clauses.ensures, told.1, same)
 
@@ -38,7 +38,7 @@ save_spent-requires-clause-numbers g c =
     let graph = graph_of c.args.program.now in
     let log = c.in-Ok-Undecided.log in
     let spent : Spent (list_of graph) log c.in-Ok-Undecided.clash c.from.result =
-    subst (λ (p : Placed). Stands graph c.from.result p) c.in-Ok-Undecided.field-0-is c.in-Ok-Undecided.ensures.stands in
+    subst (λ (p : Placed). PlacingStands graph c.from.result p) c.in-Ok-Undecided.field-0-is c.in-Ok-Undecided.ensures.stands in
     let same : length c.as_slice-lines.result.now ≡ length log = ap length c.as_slice-lines.ensures in
     omega (arith, few_clauses c.args.program.now, c.requires.conflicts, c.from.ensures, c.clause_count-clauses.ensures, spent.count, same)
 
@@ -62,7 +62,7 @@ returns-in-Ok-Refuted-clause-ends g c =
     let lines = c.as_slice.result.now in
     let count = c.clause_count-clauses.result in
     let told : Refutes (list_of graph) c.in-Ok-Refuted.log × (length c.in-Ok-Refuted.log ≤ c.from.result + 1) × HasNoPlacement graph =
-    subst (λ (p : Placed). Stands graph c.from.result p) c.in-Ok-Refuted.field-0-is c.in-Ok-Refuted.ensures.stands in
+    subst (λ (p : Placed). PlacingStands graph c.from.result p) c.in-Ok-Refuted.field-0-is c.in-Ok-Refuted.ensures.stands in
     let of_lines : Refutes (list_of graph) lines × (length lines ≤ c.from.result + 1) × HasNoPlacement graph =
     subst (λ (log : List Line). Refutes (list_of graph) log × (length log ≤ c.from.result + 1) × HasNoPlacement graph) (sym c.as_slice.ensures) told in
     let valid : All (IsClause (list_of graph).vars) (list_of graph).clauses = c.in-Ok-Refuted.ensures.valid in
@@ -86,7 +86,7 @@ returns-in-Ok-Undecided-clause-ends g c =
     let clash = c.in-Ok-Undecided.clash in
     let count = c.clause_count-clauses.result in
     let spent : Spent (list_of graph) c.in-Ok-Undecided.log clash c.from.result =
-    subst (λ (p : Placed). Stands graph c.from.result p) c.in-Ok-Undecided.field-0-is c.in-Ok-Undecided.ensures.stands in
+    subst (λ (p : Placed). PlacingStands graph c.from.result p) c.in-Ok-Undecided.field-0-is c.in-Ok-Undecided.ensures.stands in
     let of_lines : Spent (list_of graph) lines clash c.from.result =
     subst (λ (log : List Line). Spent (list_of graph) log clash c.from.result) (sym c.as_slice-lines.ensures) spent in
     Ends-map (UnlessUnsaved old new (SavesOrCannot (undecided_files asked.out.now (part_text count lines clash)) status.Undecided (undecided_line c.args.conflicts) old new))
@@ -100,4 +100,4 @@ returns-in-Err-clause-ends g c =
     let asked = c.args.asked in
     let shelf = g.S.Shelf.state c.args.shelf.now in
     wants_ends (SearchEnd asked.out.now asked.script.now c.args.script_bytes.now asked.clocks c.args.conflicts (graph_of c.args.program.now) shelf shelf) shelf
-    (g.K.Sink.state c.args.out.now) (g.K.Sink.state c.say.new.out) c.say.result c.say.ensures.says
+    (g.K.Sink.state c.args.out.now) (g.K.Sink.state c.say_no_memory.new.out) c.say_no_memory.result c.say_no_memory.ensures.says

@@ -103,7 +103,7 @@ fn two_strobes_are_refuted(rt: HostRuntime) -> Result<(), Fail> {
     Ok(())
 }
 
-/// What the checker ends with for a source and a refutation.
+// What the checker ends with for a source and a refutation.
 fn checked(alloc: Global, source: &[u8], refutation: &[u8]) -> Result<Status, OutOfMemory> {
     let mut shelf = MemShelf::new(alloc);
     shelf.put_file("s", source)?;

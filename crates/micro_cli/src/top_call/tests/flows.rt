@@ -62,7 +62,7 @@ const TRACES: [Trace; 6] = [
     (FETCH_EXECUTE, FETCH_EXECUTE_SCRIPT, 16, FETCH_EXECUTE_FLOW),
 ];
 
-/// Whether the flow of a source ends with this status and prints this text.
+// Whether the flow of a source ends with this status and prints this text.
 fn has_flow(
     alloc: Global,
     source: &[u8],
@@ -115,7 +115,7 @@ fn a_script_of_65537_lines_is_refused(rt: HostRuntime) -> Result<(), Fail> {
     Ok(())
 }
 
-/// Whether `flow s t CLOCKS` ends with this status and prints this text.
+// Whether `flow s t CLOCKS` ends with this status and prints this text.
 fn flow_answers(
     alloc: Global,
     clocks: &str,

@@ -15,7 +15,7 @@ const PLACED: &[u8] = b"placed\n\
 /// The words of its `make`.
 const MAKE: [&str; 6] = ["make", "s", "t", "o", "clocks=2", "conflicts=0"];
 
-/// Whether a file holds just these bytes.
+// Whether a file holds just these bytes.
 fn holds(shelf: &MemShelf, name: &str, bytes: &[u8]) -> bool {
     match shelf.file(name) {
         Some(file) => file == bytes,
@@ -51,7 +51,7 @@ fn a_run_without_a_layout_is_refused(rt: HostRuntime) -> Result<(), Fail> {
     Ok(())
 }
 
-/// Whether `make` refuses these files with this text, and saves nothing.
+// Whether `make` refuses these files with this text, and saves nothing.
 fn refuses_make(
     alloc: Global,
     source: &[u8],

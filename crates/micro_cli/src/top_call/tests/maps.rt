@@ -20,7 +20,7 @@ fn masks_that_the_k_bits_give_are_mapped(rt: HostRuntime) -> Result<(), Fail> {
     Ok(())
 }
 
-/// The map of so many instructions that go to themselves, row after row: each by JCC to its own row.
+// The map of so many instructions that go to themselves, row after row: each by JCC to its own row.
 fn map_in_rows(alloc: Global, count: u32) -> Result<Vec<u8>, OutOfMemory> {
     let mut text = Vec::new(alloc);
     for number in 0..count {

@@ -36,7 +36,7 @@ fn an_absent_file_is_refused(rt: HostRuntime) -> Result<(), Fail> {
     Ok(())
 }
 
-/// Whether `map s` of three cells ends so where this read fails, and the file stands.
+// Whether `map s` of three cells ends so where this read fails, and the file stands.
 fn maps_unless_read_fails(
     alloc: Global,
     read: u32,
@@ -64,7 +64,7 @@ fn each_failing_read_is_told(rt: HostRuntime) -> Result<(), Fail> {
     Ok(())
 }
 
-/// Whether `map s` of three cells ends so where this write fails.
+// Whether `map s` of three cells ends so where this write fails.
 fn maps_unless_write_fails(
     alloc: Global,
     write: u32,

@@ -9,7 +9,7 @@ use std::test::Fail;
 /// A source and what `map s` prints of it.
 type Row = (&'static [u8], &'static [u8]);
 
-/// Each source is refused with its text.
+// Each source is refused with its text.
 fn check_refusals(rt: &impl Abort, alloc: Global, rows: &[Row]) -> Result<(), Fail> {
     for (source, text) in rows {
         assert!(rt; has_map(alloc, source, Status::Input, text)?, "{text:?}");

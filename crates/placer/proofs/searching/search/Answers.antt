@@ -6,8 +6,8 @@ use Rattle.clause_base.specs.Refutation.{Refutes}
 use Rattle.clause_base.specs.Spent.{Spent}
 use Rattle.clause_base.specs.Truth.{lits_of, AreSettled, IsConflict}
 use Rattle.clause_base.specs.declared.clash.Clash.{Clash}
-use Rattle.clause_base.specs.declared.clash.Entry.{Entry}
-use Rattle.clause_base.specs.declared.log.Line.{Line}
+use Rattle.clause_base.specs.declared.entry.Entry.{Entry}
+use Rattle.clause_base.specs.declared.line.Line.{Line}
 use Rattle.trail.specs.Assignment.{Assignment, IsTrail, level_of, value_of}
 use Rattle.propagate.specs.Propagation.{Ends}
 use Rattle.propagate.specs.declared.board.Settled.{Settled}

@@ -3,7 +3,7 @@ use Rattle.std.specs.Prelude.{slice_get}
 use Rattle.std.proofs.lemmas.Bool.{cases_lt, true≢false}
 use Rattle.std.proofs.lemmas.Option.{slice_get_within, same_Some}
 use Rattle.clause_base.specs.Truth.{lits_of, IsSettled}
-use Rattle.clause_base.specs.declared.clash.Entry.{Entry}
+use Rattle.clause_base.specs.declared.entry.Entry.{Entry}
 use Rattle.propagate.proofs.Extending.{Extends-trans, longer-extends}
 use Rattle.propagate.proofs.scan.scan_all.Goals as goal
 use Rattle.propagate.proofs.scan.scan_all.Goals.{in-Quiet, in-Implied}

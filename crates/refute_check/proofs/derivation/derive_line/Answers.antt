@@ -1,22 +1,19 @@
-use Rattle.std.proofs.Common.{◌≡◌, ap, ◌∙◌, None, Result, Option, Ok, Err, IfOk, ◌↔◌}
-use Rattle.clause_base.specs.declared.log.Line.{Line}
+use Rattle.std.proofs.Common.{◌≡◌, ap, ◌∙◌, None, Option, ◌↔◌}
+use Rattle.clause_base.specs.declared.line.Line.{Line}
 use Rattle.clause_base.specs.Refutation.{Derived}
 use Rattle.refute_check.specs.Hints.{judged}
-use Rattle.ref_text.specs.declared.events.Why.{Why}
+use Rattle.ref_text.specs.declared.why.Why.{Why}
 use Rattle.refute_check.proofs.DeriveLemmas.{tells}
+use Rattle.refute_check.proofs.TakenLemmas.{each_answer}
 use Rattle.refute_check.proofs.derivation.derive_line.Goals as goal
-
-weaker : {E : Type 0} (P Q : Option Why → Type 0) → ((f : Option Why) → P f → Q f) → (r : Result (Option Why) E) → IfOk r P → IfOk r Q
-weaker P Q k (Ok f) h = k f h
-weaker P Q k (Err e) h = h
 
 pub returns-clause-derived : goal.returns-clause-derived
 returns-clause-derived c =
     let list = c.args.list.now in
     let line : Line = record { clause = c.args.clause.now; hints = c.args.hints.now } in
-    weaker
-    (λ f. f ≡ judged list.clauses c.hold_negated.new.signs.held line.hints)
-    (λ f. (f ≡ None) ↔ Derived list line)
+    each_answer
+    (λ (f : Option Why). f ≡ judged list.clauses c.hold_negated.new.signs.held line.hints)
+    (λ (f : Option Why). (f ≡ None) ↔ Derived list line)
     (λ f e.
     let x = tells list line f c.requires.above c.requires.in_range c.requires.apart c.requires.some c.requires.hints
     (e ∙ ap (λ held. judged list.clauses held line.hints) c.in_ok-hold_negated.ensures.held) in

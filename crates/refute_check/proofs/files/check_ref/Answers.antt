@@ -2,9 +2,10 @@ use Rattle.std.proofs.Common.{◌≡◌, ◌∙◌, ◌^◌, ap, ℕ, List, Some
 use Rattle.flow_graph.specs.Graph.{graph_of}
 use Rattle.mcu_jumps.specs.Position.{Position}
 use Rattle.place_model.specs.Legal.{IsLegal}
-use Rattle.clause_words.specs.Truth.{value_in}
-use Rattle.clause_words.specs.Meaning.{meaning}
+use Rattle.placement_clauses.specs.Truth.{truth_in}
+use Rattle.placement_clauses.specs.Meaning.{meaning}
 use Rattle.refute_check.specs.Taken.{decided}
+use Rattle.refute_check.specs.declared.checked.Checked.{Checked}
 use Rattle.refute_check.specs.declared.checked.Checked.TheVariants as checked
 use Rattle.refute_check.proofs.CheckLemmas.{refuted_fails}
 use Rattle.refute_check.proofs.TakenLemmas.{refutes_whole, taken_decides, each_answer}
@@ -14,10 +15,10 @@ pub returns-clause-refuted : goal.returns-clause-refuted
 returns-clause-refuted g c =
     let list = c.in_ok-list.list in
     let bytes = c.in_ok-taken.taken.bytes.items in
-    each_answer (λ answer. decided list bytes c.in_ok-taken.taken.longer ≡ Some answer)
-    (λ answer. (k : ℕ) → answer ≡ checked.Refutes k → (place : List Position) → IsLegal (graph_of c.args.program.now) place → ⊥)
+    each_answer (λ (answer : Checked). decided list bytes c.in_ok-taken.taken.longer ≡ Some answer)
+    (λ (answer : Checked). (k : ℕ) → answer ≡ checked.Refutes k → (place : List Position) → IsLegal (graph_of c.args.program.now) place → ⊥)
     (λ answer is k refutes place legal.
-    refuted_fails (value_in (meaning (graph_of c.args.program.now) place)) list bytes k (refutes_whole list bytes c.in_ok-taken.taken.longer k (is ∙ ap Some refutes)) (c.in_ok-list.ensures.sound place legal))
+    refuted_fails (truth_in (meaning (graph_of c.args.program.now) place)) list bytes k (refutes_whole list bytes c.in_ok-taken.taken.longer k (is ∙ ap Some refutes)) (c.in_ok-list.ensures.sound place legal))
     c.decide.result c.decide.ensures.told
 
 pub returns-clause-of_bytes : goal.returns-clause-of_bytes

@@ -1,7 +1,7 @@
 use Rattle.std.proofs.Common.{◌∙◌, ap, List, ℕ}
 use Rattle.std.specs.List.{list_any}
 use Rattle.std.specs.Str.{bytes_eq}
-use Rattle.micro_asm.specs.declared.lines.PinLine.{PinLine}
+use Rattle.micro_asm.specs.declared.accepted_lines.PinLine.{PinLine}
 use Rattle.micro_asm.specs.Earlier.{is_pinned}
 use Rattle.micro_asm.proofs.LabelLemmas.{pinned_label}
 use Rattle.micro_asm.proofs.pin_table.PinTable.has.Goals as goal

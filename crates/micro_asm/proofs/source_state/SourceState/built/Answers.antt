@@ -3,9 +3,9 @@ use Rattle.std.specs.Prelude.{map, unwrap_or}
 use Rattle.field_decl.specs.Decls.{declaration_of}
 use Rattle.flow_graph.specs.declared.instructions.Instr.{Instr}
 use Rattle.flow_graph.specs.declared.pinning.Pin.{Pin}
-use Rattle.flow_graph.specs.Microwords.{AreMicrowords}
+use Rattle.flow_graph.specs.Microwords.{AllFitDeclaration}
 use Rattle.flow_graph.specs.Valid.{IsProgram}
-use Rattle.micro_asm.specs.declared.lines.PinLine.{PinLine}
+use Rattle.micro_asm.specs.declared.accepted_lines.PinLine.{PinLine}
 use Rattle.micro_asm.specs.Earlier.{Facts}
 use Rattle.micro_asm.specs.Source.{unknown_line, label_place, pin_of, instr_of}
 use Rattle.micro_asm.specs.SourceStateView.{facts_in}
@@ -34,4 +34,4 @@ new-requires-clause-valid c =
 
 pub new-requires-clause-fits : goal.new-requires-clause-fits
 new-requires-clause-fits c =
-    subst (AreMicrowords (declaration_of c.in-Ok.decl)) (sym c.in_ok-instrs.ensures) (microwords_fit (facts_in c.self.inside) (declaration_of c.in-Ok.decl) c.self.invariant c.in-Ok.ensures)
+    subst (AllFitDeclaration (declaration_of c.in-Ok.decl)) (sym c.in_ok-instrs.ensures) (microwords_fit (facts_in c.self.inside) (declaration_of c.in-Ok.decl) c.self.invariant c.in-Ok.ensures)

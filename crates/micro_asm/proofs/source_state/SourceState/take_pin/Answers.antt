@@ -1,5 +1,5 @@
 use Rattle.std.proofs.Common.{◌∙◌, List, sym, subst}
-use Rattle.micro_asm.specs.declared.lines.PinLine.{PinLine}
+use Rattle.micro_asm.specs.declared.accepted_lines.PinLine.{PinLine}
 use Rattle.micro_asm.specs.Earlier.{Facts, IsSound}
 use Rattle.micro_asm.specs.SourceStateView.{facts_in}
 use Rattle.micro_asm.proofs.SoundLemmas.{sound_pin}

@@ -1,6 +1,6 @@
 use Rattle.std.proofs.Common.{◌≤◌, ap, sym, subst, ◌∙◌, arith, List}
 use Rattle.clause_base.specs.Truth.{lits_of, AreSettled}
-use Rattle.clause_base.specs.declared.clash.Entry.{Entry}
+use Rattle.clause_base.specs.declared.entry.Entry.{Entry}
 use Rattle.trail.specs.Assignment.{level_of}
 use Rattle.propagate.specs.Standing.{up_to}
 use Rattle.propagate.proofs.Forcing.{AreForced-front}

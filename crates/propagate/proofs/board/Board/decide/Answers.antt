@@ -1,7 +1,7 @@
 use Rattle.std.proofs.Common.{◌≡◌, ◌+◌, ◌++◌, [], ◌∷◌, sym, arith, subst, refl}
 use Rattle.std.proofs.lemmas.List.Sums.{sum_by_push}
 use Rattle.clause_base.specs.Truth.{lits_of, AreSettled}
-use Rattle.clause_base.specs.declared.clash.Entry.{Entry}
+use Rattle.clause_base.specs.declared.entry.Entry.{Entry}
 use Rattle.trail.specs.Assignment.{level_of, step_of}
 use Rattle.propagate.specs.Standing.{Standing}
 use Rattle.propagate.proofs.Forcing.{AreForced-push}

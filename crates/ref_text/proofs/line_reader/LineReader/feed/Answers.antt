@@ -1,6 +1,6 @@
 use Rattle.std.proofs.Common.{◌≡◌, ◌∙◌, ◌+◌, ℕ, ap, sym, refl, Option, Some, None}
 use Rattle.ref_text.specs.Reading.{Reader, after_feed, fed_of}
-use Rattle.ref_text.specs.declared.events.Why.{Why}
+use Rattle.ref_text.specs.declared.why.Why.{Why}
 use Rattle.ref_text.specs.declared.events.Fed.{Fed}
 use Rattle.ref_text.specs.declared.events.Event.TheVariants as event
 use Rattle.ref_text.proofs.PieceLaws.{feed_is, feed_fails}

@@ -3,7 +3,7 @@ use Rattle.std.proofs.lemmas.Bool.Decides.{nat_tests}
 use Rattle.std.specs.Prelude.{nat_le, nat_lt}
 use Rattle.std.specs.Option.{option_to_list}
 use Rattle.clause_base.specs.Lit.{var_of}
-use Rattle.clause_base.specs.declared.clash.Entry.{Entry}
+use Rattle.clause_base.specs.declared.entry.Entry.{Entry}
 use Rattle.trail.specs.Assignment.{ends_above_test}
 use Rattle.trail.specs.Kept.{AreKept}
 use Rattle.trail.proofs.Order.{IsTrail-last}

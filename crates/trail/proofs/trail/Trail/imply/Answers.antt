@@ -1,7 +1,7 @@
 use Rattle.std.proofs.Common.{◌≡◌, ◌<◌, ◌≤◌, ap, ◌∙◌, arith, None}
 use Rattle.std.proofs.lemmas.List.Sums.{sum_by_push}
 use Rattle.clause_base.specs.Lit.{var_of}
-use Rattle.clause_base.specs.declared.clash.Entry.{Entry}
+use Rattle.clause_base.specs.declared.entry.Entry.{Entry}
 use Rattle.trail.specs.Assignment.{value_of, step_of}
 use Rattle.trail.proofs.Signs.{sign-unassigned}
 use Rattle.trail.proofs.Order.{Follows-unassigned}

@@ -1,7 +1,0 @@
-use Rattle.std.proofs.Common.{◌≡◌, map, take}
-use Rattle.bpnf.specs.Canonical.{image_text}
-use Rattle.bench_answers.proofs.placed_files.image_texts.Given as goal
-
--- the texts of the images so far
-abbrev pub invariant-loop-image : goal.invariant-loop-image
-invariant-loop-image l = map (λ text. text.items) l.texts.items ≡ map image_text (take l.image-index l.images)

@@ -1,5 +1,0 @@
-use Rattle.bus_bench.proofs.Runs.{law}
-use Rattle.bus_bench.proofs.law.chip_matches_flow.Goals as goal
-
-pub returns : goal.returns
-returns c = law

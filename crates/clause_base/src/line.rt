@@ -1,0 +1,13 @@
+//! The lines of a refutation.
+
+use crate::{Lits, Numbers};
+
+/// A clause, and the numbers of the clauses that it is derived from, in the order of the derivation.
+#[derive(Drop)]
+pub struct Line {
+    /// What is derived. A clause without a literal is false.
+    pub clause: Lits,
+    /// The numbers. In a derived line each but the last is of a clause that is unit when its turn comes, and the last
+    /// of a clause that is false then.
+    pub hints: Numbers,
+}

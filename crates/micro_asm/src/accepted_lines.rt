@@ -1,0 +1,48 @@
+//! What accepted lines say that name labels, each with its line.
+
+use crate::written_instruction::TargetNames;
+use cpe_slice::Fn7;
+use field_decl::{FieldValues, Name};
+use mcu_chip::FlagCtl;
+use mcu_jumps::{Cell, Kind};
+
+/// The label where the flow begins.
+#[derive(Clone, Copy)]
+pub struct StartLine {
+    /// Its line in the source, from 1.
+    pub line: u32,
+    /// The name of the label.
+    pub label: Name,
+}
+
+/// A label that is pinned to a cell.
+#[derive(Clone, Copy)]
+pub struct PinLine {
+    /// Its line in the source, from 1.
+    pub line: u32,
+    /// The name of the label.
+    pub label: Name,
+    /// The cell that the label is pinned to.
+    pub cell: Cell,
+}
+
+/// An instruction whose targets are names.
+#[derive(Drop)]
+pub struct NamedInstr {
+    /// Its line in the source, from 1.
+    pub line: u32,
+    /// The name of its label.
+    pub label: Name,
+    /// The function code of the slices.
+    pub func: Fn7,
+    /// What the K bits put on the K bus, a bit for each bit of the slices.
+    pub mask: u32,
+    /// Its flag functions.
+    pub ctl: FlagCtl,
+    /// The values of the user fields, in the fields' order.
+    pub values: FieldValues,
+    /// Its flow statement.
+    pub kind: Kind,
+    /// Where the outcomes lead, by name.
+    pub targets: TargetNames,
+}

@@ -1,0 +1,10 @@
+//! What the placement clauses of a program say, and what their variables mean, for the clauses' encoder
+//! and for every proof about them. Layer: decision.
+//!
+//! `specs/Clauses` is the numbered list of clauses and `specs/Meaning` the truth value of each variable under a
+//! placement. The lemmas show both ways that the list says when a placement is legal, whatever makes the list.
+#![tactic(auto)]
+
+mod truths;
+
+pub use truths::Truths;

@@ -1,8 +1,0 @@
--- The literals that hold while a line is judged.
-
-use Rattle.std.specs.Prelude.{ℕ, ℤ, List}
-
--- literals that hold, over so many variables
-pub record Signed : Type 0 where
-  pub vars : ℕ
-  pub held : List ℤ
