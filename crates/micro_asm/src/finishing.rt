@@ -1,8 +1,11 @@
 //! The program that accepted lines give.
 
-ghost use Rattle.std.specs.Prelude.{◌≡◌, ◌≤◌, None, map, length, IfOk};
+ghost use Rattle.std.specs.Prelude.{◌≡◌, ◌≤◌, None, map, length, unwrap_or, IfErr, IfOk};
+ghost use Rattle.field_decl.specs.Decls.{declaration_of};
+ghost use Rattle.field_decl.specs.Layout.{completed};
+ghost use Rattle.field_decl.specs.Results.{GivesKind};
 ghost use Rattle.flow_graph.specs.Graph.{graph_of};
-ghost use Rattle.micro_asm.specs.Results.{GivesSource};
+ghost use Rattle.micro_asm.specs.Results.{GivesSource, RefusesAt};
 ghost use Rattle.micro_asm.specs.Source.{label_place, pin_of, instr_of, target_place, unknown_line, built, program_of};
 
 use crate::accepted_lines::{NamedInstr, PinLine, StartLine};
@@ -10,7 +13,7 @@ use crate::fault::AsmFault;
 use crate::instr_table::InstrTable;
 use crate::source_state::SourceState;
 use crate::unknown_labels::{first_line, unknown_pin, unknown_start, unknown_target};
-use field_decl::{AsmKind, FieldValues, Name};
+use field_decl::{AsmKind, Decl, FieldValues, Name};
 use flow_graph::{Instr, Instrs, Pin, Pins, Program, Targets};
 use std::alloc::{AllocError, Global};
 
@@ -124,26 +127,48 @@ impl SourceState {
         )
     }
 
-    // The program of lines that name known labels alone.
-    fn built(self, alloc: Global, start: &StartLine) -> Result<Program, AsmFault>
-        requires { unknown_line self start.now ≡ None }
-        ensures { GivesSource graph_of result (built self start.now) }
+    // The start's label, the pins and the instructions of lines that name known labels alone.
+    fn labelled(&self, alloc: Global, start: &StartLine) -> Result<(u16, Pins, Instrs), AllocError>
+        requires { unknown_line self.now start.now ≡ None }
+        ensures first { IfOk result (λ parts. parts.0 ≡ unwrap_or (label_place self.now.instrs start.now.label) 0) }
+        ensures pins { IfOk result (λ parts. parts.1 ≡ map (pin_of self.now.instrs) self.now.pins) }
+        ensures instrs { IfOk result (λ parts. parts.2 ≡ map (instr_of self.now.instrs) self.now.instrs) }
     {
         let Some(first) = label_of(&self.instrs, &start.label) else {
             unreachable!()
         };
         let pins = pins_of(alloc, &self.instrs, self.pins.as_slice())?;
         let instrs = instrs_of(alloc, &self.instrs)?;
-        match self.decl.finish() {
-            Ok(decl) => Ok(Program::new(decl, self.rows.unwrap_or(32), first, pins, instrs)),
+        Ok((first, pins, instrs))
+    }
+
+    // What the lines declare, with the defaults for what they do not give.
+    fn declaration(self) -> Result<Decl, AsmKind>
+        ensures { GivesKind declaration_of result (completed self.declared) }
+    {
+        self.decl.finish()
+    }
+
+    // The program of lines that name known labels alone.
+    fn built(self, alloc: Global, start: &StartLine) -> Result<Program, AsmFault>
+        requires { unknown_line self start.now ≡ None }
+        ensures { GivesSource graph_of result (built self start.now) }
+    {
+        let (first, pins, instrs) = self.labelled(alloc, start)?;
+        let rows = self.rows.unwrap_or(32);
+        match self.declaration() {
+            Ok(decl) => Ok(Program::new(decl, rows, first, pins, instrs)),
             Err(kind) => Err(AsmFault::At { line: 0, kind }),
         }
     }
 
-    /// The program, or what the whole source lacks.
+    // The start where every line names known labels, or what the whole source lacks, or the first line that names an
+    // unknown label.
     #[tactic(auto, unfolding(crate::specs::Source::program_of))]
-    pub fn finish(self, alloc: Global) -> Result<Program, AsmFault>
-        ensures { GivesSource graph_of result (program_of self) }
+    fn known_start(&self) -> Result<StartLine, AsmFault>
+        ensures known { IfOk result (λ start. unknown_line self.now start ≡ None) }
+        ensures given { IfOk result (λ start. program_of self.now ≡ built self.now start) }
+        ensures refused { IfErr result (λ fault. RefusesAt fault (program_of self.now)) }
     {
         if self.instrs.as_slice().is_empty() {
             return Err(AsmFault::At {
@@ -151,19 +176,26 @@ impl SourceState {
                 kind: AsmKind::Empty,
             });
         }
-        let start = match &self.start {
-            Some(start) => *start,
-            None => return Err(AsmFault::At {
+        let Some(start) = self.start else {
+            return Err(AsmFault::At {
                 line: 0,
                 kind: AsmKind::NoStart,
-            }),
+            });
         };
-        if let Some(line) = self.unknown_line(&start) {
-            return Err(AsmFault::At {
+        match self.unknown_line(&start) {
+            Some(line) => Err(AsmFault::At {
                 line,
                 kind: AsmKind::UnknownLabel,
-            });
+            }),
+            None => Ok(start),
         }
+    }
+
+    /// The program, or what the whole source lacks, or the first line that names an unknown label.
+    pub fn finish(self, alloc: Global) -> Result<Program, AsmFault>
+        ensures { GivesSource graph_of result (program_of self) }
+    {
+        let start = self.known_start()?;
         self.built(alloc, &start)
     }
 }
