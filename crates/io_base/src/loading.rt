@@ -83,9 +83,9 @@ pub fn load<S: Shelf>(
                 if count as u64 > left {
                     return Err(LoadFault::TooLong);
                 }
-                bytes
-                    .extend_from_slice(&piece[..count])
-                    .map_err(|_| LoadFault::OutOfMemory)?;
+                if bytes.extend_from_slice(&piece[..count]).is_err() {
+                    return Err(LoadFault::OutOfMemory);
+                }
             }
         }
     }
