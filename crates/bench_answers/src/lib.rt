@@ -17,6 +17,3 @@ mod traces;
 pub use laws::{images_follow_the_flow, saved_is_read_back};
 pub use placed_runs::{PlacedRun, save_and_run};
 pub use saved_runs::run_saved;
-
-#[cfg(test)]
-mod tests;

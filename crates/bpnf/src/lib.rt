@@ -13,8 +13,6 @@ mod laws;
 mod printer;
 mod prom;
 mod reader;
-#[cfg(test)]
-mod tests;
 
 pub use bytes::Bytes;
 pub use fault::BpnfFault;

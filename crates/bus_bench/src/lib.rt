@@ -15,6 +15,3 @@ mod word_at;
 pub use laws::{chip_matches_flow, programs_have_graphs, words_of_a_placement};
 pub use running::run;
 pub use shift_test::bad_shift;
-
-#[cfg(test)]
-mod tests;

@@ -23,6 +23,3 @@ pub use fault::{ScriptFault, ScriptKind};
 pub use reading::read_script;
 pub use script::{Script, at, initial};
 pub use trace_line::view_line;
-
-#[cfg(test)]
-mod tests;

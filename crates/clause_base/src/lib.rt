@@ -22,6 +22,3 @@ pub use line::Line;
 pub use lit::{Lit, Lits};
 pub use log::Log;
 pub use numbers::Numbers;
-
-#[cfg(test)]
-mod tests;

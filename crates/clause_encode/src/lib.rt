@@ -27,9 +27,3 @@ pub use counting::clause_count;
 pub use decoding::place_of;
 pub use encoding::{encode, var_count};
 pub use numbered::clause_at;
-pub use placement_clauses::Truths;
-
-#[cfg(test)]
-mod model_tables;
-#[cfg(test)]
-mod worked_examples;

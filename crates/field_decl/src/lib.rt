@@ -33,6 +33,3 @@ pub use layout_text::print_decl;
 pub use microword::{prom_count, word_width};
 pub use name::Name;
 pub use word::{Word, line_words, words_from};
-
-#[cfg(test)]
-mod tests;

@@ -13,7 +13,6 @@ mod pinning;
 mod programs;
 mod targeting;
 
-pub use field_decl::Name;
 pub use instructions::{Instr, Instrs, first_real};
 pub use pinning::{Pin, Pins};
 pub use programs::Program;

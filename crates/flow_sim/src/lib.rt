@@ -25,6 +25,3 @@ pub use order::{Order, writes};
 pub use run_fault::RunFault;
 pub use running::flow_run;
 pub use stepping::flow_step;
-
-#[cfg(test)]
-mod tests;

@@ -19,8 +19,6 @@ mod shelf_counts;
 mod shelves;
 mod sinks;
 mod std_sink;
-#[cfg(test)]
-mod tests;
 
 pub use faults::{Failed, OutOfMemory};
 pub use file_shelf::FileShelf;

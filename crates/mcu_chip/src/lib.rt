@@ -13,6 +13,3 @@ mod flags;
 pub use chip::{Mcu, McuOut};
 pub use clock::{flag_out, fo, next_c, next_z, step};
 pub use flags::{FlagCtl, FlagIn, FlagOut};
-
-#[cfg(test)]
-mod worked_examples;

@@ -22,6 +22,3 @@ pub use jumps::Jump;
 pub use kinds::Kind;
 pub use reaching::{admits, one_jump_to_a_label, outcomes, reach};
 pub use readings::Tests;
-
-#[cfg(test)]
-mod worked_examples;

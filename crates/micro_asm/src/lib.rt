@@ -28,6 +28,3 @@ mod written_instruction;
 
 pub use fault::AsmFault;
 pub use source::assemble;
-
-#[cfg(test)]
-mod tests;

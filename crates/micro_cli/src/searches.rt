@@ -22,7 +22,7 @@ use flow_graph::Program;
 use io_base::{OutOfMemory, Shelf, Sink};
 use place_model::{MapFault, pinned};
 use placer::{Placed, place};
-use refute_check::laws::{printed_refutations_are_taken, refutation_texts_are_short};
+use refute_check::{printed_refutations_are_taken, refutation_texts_are_short};
 use replies::{Status, say_no_memory};
 use std::alloc::Global;
 
@@ -76,7 +76,7 @@ fn save_spent<S: Shelf, K: Sink>(
     }
 }
 
-// Searches a placement of a program, and saves what the search answers.
+// Searches for a placement of a program, and saves what the search answers.
 fn search_and_save<S: Shelf, K: Sink>(
     alloc: Global,
     shelf: &mut S,
@@ -115,7 +115,7 @@ fn search_and_save<S: Shelf, K: Sink>(
     }
 }
 
-/// Places a program by its pins where these give a legal placement, and else searches one within a budget of
+/// Places a program by its pins where these give a legal placement, and else searches for one within a budget of
 /// conflicts of at most 1,000,000. Saves what it finds: a placement as `save_and_run` saves and runs it; a refutation
 /// as `OUT.ref`, told by `refuted L` for its L lines; or the lines and the clash of a spent budget of B conflicts as
 /// `OUT.part`, told by `undecided B`.
@@ -142,7 +142,7 @@ pub fn place_and_save<S: Shelf, K: Sink>(
 {
     match pinned(alloc, program) {
         Ok(placement) => save_and_run(alloc, shelf, out, asked, program, &placement, script_bytes),
-        // The pins give no legal placement, so one is searched.
+        // The pins give no legal placement, so one is searched for.
         Err(MapFault::At { .. }) => {
             search_and_save(alloc, shelf, out, asked, program, script_bytes, conflicts)
         }

@@ -16,6 +16,3 @@ pub use fault::LexFault;
 pub use line_tokens::tokens;
 pub use lines::{LineSpan, next_line};
 pub use token::{Token, TokenKind};
-
-#[cfg(test)]
-mod tests;

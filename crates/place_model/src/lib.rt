@@ -18,8 +18,3 @@ pub use legality::legal;
 pub use map_texts::map_text;
 pub use pinned_cells::pinned;
 pub use placements::Placement;
-
-#[cfg(test)]
-mod program_tables;
-#[cfg(test)]
-mod worked_examples;

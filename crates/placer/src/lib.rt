@@ -14,6 +14,3 @@ mod searching;
 pub use learning::{Learnt, analyse};
 pub use placing::{Placed, place};
 pub use searching::{Verdict, search};
-
-#[cfg(test)]
-mod tests;

@@ -10,6 +10,3 @@ mod layout_step;
 mod words_step;
 
 pub use words_step::{SavedWords, load_words};
-
-#[cfg(test)]
-mod tests;

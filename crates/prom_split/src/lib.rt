@@ -25,6 +25,3 @@ pub use placed_words::{word_of, words_of};
 pub use splitting::split;
 pub use word_list::Words;
 pub use word_parts::{WordParts, parts};
-
-#[cfg(test)]
-mod worked_examples;

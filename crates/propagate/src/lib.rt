@@ -11,6 +11,3 @@ mod clause_status;
 mod scan;
 
 pub use board::{Board, Settled};
-
-#[cfg(test)]
-mod tests;

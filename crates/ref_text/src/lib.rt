@@ -7,7 +7,7 @@
 
 mod events;
 mod forms;
-pub mod laws;
+mod laws;
 mod line_reader;
 mod literals;
 mod printing;
@@ -15,9 +15,7 @@ mod why;
 mod words;
 
 pub use events::{Event, Fed};
+pub use laws::{cuts_make_no_difference, printed_lines_are_read, whole_lines_are_told};
 pub use line_reader::LineReader;
 pub use printing::{print_clash, print_line};
 pub use why::Why;
-
-#[cfg(test)]
-mod tests;

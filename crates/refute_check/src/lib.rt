@@ -8,7 +8,7 @@
 mod checked;
 mod derivation;
 mod files;
-pub mod laws;
+mod laws;
 mod lines;
 mod progress;
 mod signs;
@@ -16,7 +16,7 @@ mod taking;
 
 pub use checked::{CheckFault, Checked};
 pub use files::check_ref;
+pub use laws::{
+    printed_refutations_are_taken, refutation_texts_are_short, refuting_text_is_a_refutation,
+};
 pub use lines::check_bytes;
-
-#[cfg(test)]
-mod tests;

@@ -20,6 +20,3 @@ pub use reply::{Reply, Stop, refuse, refuse_line, tell_unread};
 pub use script_step::{SCRIPT_LIMIT, load_script, script_from};
 pub use source_step::load_source;
 pub use status::Status;
-
-#[cfg(test)]
-mod tests;

@@ -12,8 +12,6 @@ mod names;
 mod one_file;
 mod placement_files;
 mod saving;
-#[cfg(test)]
-mod tests;
 mod text;
 mod unsaved;
 

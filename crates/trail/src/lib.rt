@@ -8,6 +8,3 @@
 mod trail;
 
 pub use trail::Trail;
-
-#[cfg(test)]
-mod tests;

@@ -1,7 +1,5 @@
 //! What `check` answers for one program that has no placement. The expected answers were worked out on paper.
 
-ghost use Rattle.std.specs.Prelude.{◌≤◌, length};
-
 use crate::check_command::check_command;
 use io_base::{CallKind, MemShelf, MemSink, OutOfMemory};
 use replies::Status;
@@ -15,6 +13,7 @@ const ONE_LABEL_TWICE: &[u8] = b"slices 1\nstart A\nA: NOP R0 | iff B B\nB: NOP 
 const REFUTATION: &[u8] = b"1434 0 1286 1319 1367 1146 0\n";
 
 // Whether the check of a refutation, over a shelf whose read of this number fails, ends with this status and text.
+// The names are those of the source and of the refutation.
 fn ends(
     alloc: Global,
     refutation: &[u8],
@@ -22,10 +21,10 @@ fn ends(
     names: (&str, &str),
     status: Status,
     text: &[u8],
-) -> Result<bool, OutOfMemory>
-    requires src_short { length names.0.now ≤ 220 }
-    requires refutation_short { length names.1.now ≤ 220 }
-{
+) -> Result<bool, OutOfMemory> {
+    if names.0.len() > 220 || names.1.len() > 220 {
+        return Ok(false);
+    }
     let mut shelf = MemShelf::new(alloc);
     shelf.put_file("s", ONE_LABEL_TWICE)?;
     shelf.put_file("r", refutation)?;
@@ -103,82 +102,26 @@ fn tells_the_answer(rt: HostRuntime) -> Result<(), Fail> {
     Ok(())
 }
 
-#[test]
-fn an_absent_source_is_refused(rt: HostRuntime) -> Result<(), Fail> {
-    let text = b"refused t NoFile\n";
-    assert!(rt;
-        ends(
-            rt.alloc(),
-            REFUTATION,
-            None,
-            ("t", "r"),
-            Status::Input,
-            text
-        )?
-    );
-    Ok(())
-}
+/// The names of source and refutation, the read that fails, and what the check of REFUTATION prints.
+const INPUTS: [(&str, &str, Option<u32>, Status, &[u8]); 5] = [
+    ("t", "r", None, Status::Input, b"refused t NoFile\n"),
+    (
+        "r",
+        "r",
+        None,
+        Status::Input,
+        b"refused r line 1 UnknownDirective\n",
+    ),
+    ("s", "q", None, Status::Input, b"refused q NoFile\n"),
+    ("s", "r", Some(1), Status::ShelfFault, b"cannot read s\n"),
+    ("s", "r", Some(3), Status::ShelfFault, b"cannot read r\n"),
+];
 
 #[test]
-fn a_source_that_is_none_is_refused(rt: HostRuntime) -> Result<(), Fail> {
-    let text = b"refused r line 1 UnknownDirective\n";
-    assert!(rt;
-        ends(
-            rt.alloc(),
-            REFUTATION,
-            None,
-            ("r", "r"),
-            Status::Input,
-            text
-        )?
-    );
-    Ok(())
-}
-
-#[test]
-fn an_absent_refutation_is_refused(rt: HostRuntime) -> Result<(), Fail> {
-    let text = b"refused q NoFile\n";
-    assert!(rt;
-        ends(
-            rt.alloc(),
-            REFUTATION,
-            None,
-            ("s", "q"),
-            Status::Input,
-            text
-        )?
-    );
-    Ok(())
-}
-
-#[test]
-fn a_failing_read_of_the_source_is_told(rt: HostRuntime) -> Result<(), Fail> {
-    let text = b"cannot read s\n";
-    assert!(rt;
-        ends(
-            rt.alloc(),
-            REFUTATION,
-            Some(1),
-            ("s", "r"),
-            Status::ShelfFault,
-            text
-        )?
-    );
-    Ok(())
-}
-
-#[test]
-fn a_failing_read_of_the_refutation_is_told(rt: HostRuntime) -> Result<(), Fail> {
-    let text = b"cannot read r\n";
-    assert!(rt;
-        ends(
-            rt.alloc(),
-            REFUTATION,
-            Some(3),
-            ("s", "r"),
-            Status::ShelfFault,
-            text
-        )?
-    );
+fn tells_what_is_not_had(rt: HostRuntime) -> Result<(), Fail> {
+    for (source, refutation, failing, status, text) in &INPUTS {
+        let names = (*source, *refutation);
+        assert!(rt; ends(rt.alloc(), REFUTATION, *failing, names, *status, text)?);
+    }
     Ok(())
 }

@@ -1,4 +1,5 @@
-//! The examples of the guide for each of the three answers, their sources without comments.
+//! Copies of the guide's examples for each of the three answers, without comments; a change in `examples/` is made here
+//! too.
 
 use super::{ends, file_of, is_accepted};
 use crate::check_command::check_command;

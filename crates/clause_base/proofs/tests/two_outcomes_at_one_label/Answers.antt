@@ -1,5 +1,0 @@
-use Rattle.clause_base.proofs.ExampleLemmas.{two_outcomes_refuted}
-use Rattle.clause_base.proofs.tests.two_outcomes_at_one_label.Goals as goal
-
-pub returns-clause-refutes : goal.returns-clause-refutes
-returns-clause-refutes c = two_outcomes_refuted

@@ -1,8 +1,0 @@
-use Rattle.std.proofs.Common.{◌≡◌, false}
-use Rattle.ref_text.proofs.tests.reading.Given as goal
-
-abbrev pub invariant-pieces : goal.invariant-pieces
-invariant-pieces l = l.reader.failed ≡ false
-
-abbrev pub invariant-feeds : goal.invariant-feeds
-invariant-feeds l = l.reader.failed ≡ false
