@@ -1,12 +1,11 @@
 -- One clock of the bench, by the answer of the array and the flag step of the 3001.
-use Rattle.std.proofs.Common.{◌≡◌, ℕ, ◌+◌, ◌*◌, ◌/◌, ◌%◌, ◌<◌, ◌^◌, Bool, List, Option, IsTrue, refl, ap, ◌∙◌, arith}
+use Rattle.std.proofs.Common.{◌≡◌, ℕ, ◌+◌, ◌/◌, ◌<◌, ◌^◌, Bool, List, Option, refl, ◌∙◌}
 use Rattle.std.proofs.lemmas.Nat.{pow_pos}
 use Rattle.std.proofs.Math.Nat.{mod-lt}
 use Rattle.cpe_slice.specs.Registers.{Registers}
 use Rattle.mcu_jumps.specs.Position.{Position}
 use Rattle.mcu_chip.specs.FlagStep.{next_pr, is_strobe, pr_shown}
 use Rattle.field_decl.specs.Declaration.{Declaration}
-use Rattle.field_decl.specs.KBits.{spread_bits}
 use Rattle.flow_graph.specs.Order.{Order}
 use Rattle.bus_script.specs.declared.buses.Buses.{Buses}
 use Rattle.bus_script.specs.declared.clock_view.ClockView.{ClockView}

@@ -2,7 +2,7 @@
 use Rattle.std.proofs.Common.{◌≡◌, ℕ, ◌<◌, ◌⊎◌, inl, inr, IsTrue, List, length, Some, None, ap, subst, ◌∙◌}
 use Rattle.std.specs.Prelude.{slice_get}
 use Rattle.std.proofs.lemmas.Option.{slice_get_within}
-use Rattle.mcu_jumps.specs.Position.{Position, IsCell}
+use Rattle.mcu_jumps.specs.Position.{Position}
 use Rattle.mcu_jumps.specs.JumpWord.{JumpWord, IsJump}
 use Rattle.cpe_slice.specs.FunctionCode.{is_shift}
 use Rattle.field_decl.specs.Declaration.{Declaration}

@@ -1,11 +1,11 @@
 -- One clock of the chip and of the flow.
-use Rattle.std.proofs.Common.{◌≡◌, ℕ, ◌<◌, List, length, get_or, Option, Some, None, refl, sym, ap, subst, ◌∙◌, arith}
+use Rattle.std.proofs.Common.{◌≡◌, ℕ, ◌<◌, List, length, Option, Some, None, refl, sym, ap, subst, ◌∙◌}
 use Rattle.std.specs.Prelude.{slice_get}
 use Rattle.std.proofs.lemmas.Option.{slice_get_within}
 use Rattle.mcu_jumps.specs.Position.{Position, IsCell}
 use Rattle.mcu_jumps.specs.JumpWord.{JumpWord}
 use Rattle.mcu_jumps.specs.Landing.{outcomes_of}
-use Rattle.mcu_jumps.specs.NextAddress.{lands, tested, next_of}
+use Rattle.mcu_jumps.specs.NextAddress.{next_of}
 use Rattle.mcu_jumps.specs.Readings.{Readings}
 use Rattle.mcu_chip.specs.FlagStep.{next_pr, is_strobe, pr_shown}
 use Rattle.flow_graph.specs.declared.instructions.Instr.{Instr}
@@ -17,9 +17,9 @@ use Rattle.place_model.specs.Legal.{IsLegal, MeetsLegality}
 use Rattle.prom_split.specs.Parts.{parts_of}
 use Rattle.prom_split.specs.Microword.{parts_with, HoldsProgram, free_jump}
 use Rattle.prom_split.proofs.ListSteps.{element_at}
-use Rattle.flow_sim.specs.Machine.{Machine, fi_of, readings_of, after, view_of}
-use Rattle.flow_sim.specs.Flow.{FlowState, outcome_of, or_trap, place_after, latch_after, strobes, shows, flow_step, flow_view}
-use Rattle.bus_bench.specs.Chip.{BenchState, parts_at, step_by, view_by, chip_step, chip_view}
+use Rattle.flow_sim.specs.Machine.{Machine, fi_of, readings_of, after}
+use Rattle.flow_sim.specs.Flow.{outcome_of, place_after, latch_after, strobes, shows, flow_step, flow_view}
+use Rattle.bus_bench.specs.Chip.{parts_at, step_by, view_by, chip_step, chip_view}
 use Rattle.bus_bench.specs.Law.{IsGraph}
 use Rattle.bus_bench.proofs.Jumps.{Agrees, agrees, outcome_below, latch_below, lands_in}
 use Rattle.bus_bench.proofs.Orders.{IsHeld, read_back, order_back, instr_held, free_held}

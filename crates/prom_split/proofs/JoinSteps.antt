@@ -1,5 +1,5 @@
 -- Joining: one image more, and one word more.
-use Rattle.std.proofs.Common.{ℕ, zero, suc, ◌+◌, ◌-◌, ◌*◌, ◌/◌, ◌%◌, ◌^◌, ◌<◌, ◌≤◌, ◌≡◌, ◌⊎◌, refl, sym, ap, subst, ◌∙◌, arith, List, [], ◌∷◌, ◌++◌, length, get_or, Option, Some, None, slice_get, inl, inr}
+use Rattle.std.proofs.Common.{ℕ, suc, ◌+◌, ◌-◌, ◌*◌, ◌/◌, ◌%◌, ◌^◌, ◌<◌, ◌≤◌, ◌≡◌, sym, ap, subst, ◌∙◌, arith, List, [], ◌∷◌, ◌++◌, length, get_or, Option, Some, slice_get, inl, inr}
 use Rattle.std.specs.Prelude.{slice_index}
 use Rattle.std.specs.List.{All}
 use Rattle.std.specs.Int.{bit_at}
@@ -7,11 +7,11 @@ use Rattle.std.proofs.lemmas.Bool.{cases_lt}
 use Rattle.std.proofs.lemmas.List.Elements.{All-get_or, All-push}
 use Rattle.std.proofs.lemmas.Nat.{pow_pos, pow-add, div-mul-add, mod-mul-add, shl_whole}
 use Rattle.std.proofs.lemmas.Option.{slice_get_within}
-use Rattle.std.proofs.Math.Nat.{mul-le-mul_right, mod-eq_of_lt, pow-le-pow_right, mod-lt}
+use Rattle.std.proofs.Math.Nat.{mul-le-mul_right, pow-le-pow_right, mod-lt}
 use Rattle.bpnf.specs.Image.{Image, IsImage}
 use Rattle.field_decl.specs.Declaration.{Declaration}
 use Rattle.prom_split.specs.Parts.{width_of}
-use Rattle.prom_split.specs.Images.{FitWords, FitImages, AreJoined, ShowBits, HaveBits, words_in, shown_bit, image_count}
+use Rattle.prom_split.specs.Images.{FitImages, AreJoined, words_in, shown_bit}
 use Rattle.prom_split.proofs.ImageBits.{bit_at-low, bit_at-sum_low, bit_at-sum_high}
 use Rattle.prom_split.proofs.ListSteps.{length_push, number_before, number_last}
 

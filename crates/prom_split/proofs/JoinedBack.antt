@@ -1,18 +1,16 @@
 -- What is read from written images is what was written, and images are fixed by their words.
-use Rattle.std.proofs.Common.{ℕ, zero, suc, ◌+◌, ◌-◌, ◌*◌, ◌/◌, ◌%◌, ◌^◌, ◌<◌, ◌≤◌, ◌≡◌, ◌⊎◌, refl, sym, ap, ap₂, subst, ◌∙◌, arith, List, [], ◌∷◌, ◌++◌, length, get_or, Option, Some, None, slice_get, inl, inr}
+use Rattle.std.proofs.Common.{ℕ, suc, ◌+◌, ◌*◌, ◌/◌, ◌%◌, ◌^◌, ◌<◌, ◌≡◌, refl, sym, ap, ap₂, ◌∙◌, arith, List, [], ◌∷◌, length, get_or, Option, Some, slice_get, inl, inr}
 use Rattle.std.specs.Prelude.{slice_index}
-use Rattle.std.specs.List.{All}
 use Rattle.std.specs.Int.{bit_at}
 use Rattle.std.proofs.lemmas.Bool.{cases_lt}
 use Rattle.std.proofs.lemmas.Grind.{same_number_lists}
 use Rattle.std.proofs.lemmas.List.Elements.{All-get_or}
 use Rattle.std.proofs.lemmas.Nat.{div-mul-add, mod-mul-add}
 use Rattle.std.proofs.lemmas.Nat.Bits.{same_from_bits_below}
-use Rattle.std.proofs.lemmas.Option.{slice_get_within}
-use Rattle.bpnf.specs.Image.{Image, IsImage}
+use Rattle.bpnf.specs.Image.{Image}
 use Rattle.field_decl.specs.Declaration.{Declaration}
 use Rattle.prom_split.specs.Parts.{width_of}
-use Rattle.prom_split.specs.Images.{FitWords, FitImages, AreImages, AreJoined, words_in, shown_bit, image_count}
+use Rattle.prom_split.specs.Images.{FitWords, AreImages, AreJoined, words_in, shown_bit}
 use Rattle.prom_split.proofs.SplitSteps.{image_with}
 use Rattle.prom_split.proofs.JoinSteps.{word_below}
 

@@ -1,9 +1,9 @@
 -- The words of a legal placement: they hold its program, and there is one list of them.
-use Rattle.std.proofs.Common.{ℕ, zero, suc, ◌+◌, ◌*◌, ◌/◌, ◌%◌, ◌<◌, ◌≡◌, ◌≢◌, ◌⊎◌, inl, inr, refl, sym, ap, ap₂, subst, ◌∙◌, arith, List, [], ◌∷◌, length, get_or, Some, None, slice_get}
+use Rattle.std.proofs.Common.{ℕ, zero, suc, ◌+◌, ◌*◌, ◌/◌, ◌%◌, ◌<◌, ◌≡◌, ◌≢◌, ◌⊎◌, inl, inr, sym, ap, ap₂, subst, ◌∙◌, arith, List, [], ◌∷◌, length, get_or, Some, None, slice_get}
 use Rattle.std.proofs.lemmas.Grind.{same_number_lists}
 use Rattle.std.proofs.lemmas.Option.{slice_get_within}
-use Rattle.mcu_jumps.specs.Position.{Position, IsCell, address_of}
-use Rattle.mcu_jumps.specs.JumpWord.{JumpWord, IsJump, ac_of}
+use Rattle.mcu_jumps.specs.Position.{Position, IsCell}
+use Rattle.mcu_jumps.specs.JumpWord.{JumpWord, ac_of}
 use Rattle.flow_graph.specs.declared.instructions.Instr.{Instr}
 use Rattle.flow_graph.specs.Graph.{Graph}
 use Rattle.place_model.specs.Cells.{IsAt}

@@ -1,6 +1,5 @@
 -- The words of the cells, one cell at a time.
-use Rattle.std.proofs.Common.{ℕ, zero, suc, ◌+◌, ◌*◌, ◌/◌, ◌%◌, ◌^◌, ◌<◌, ◌≤◌, ◌≡◌, ◌≢◌, ◌⊎◌, refl, sym, ap, ap₂, subst, ◌∙◌, arith, List, [], ◌∷◌, ◌++◌, length, get_or, Option, Some, None, slice_get, inl, inr}
-use Rattle.std.specs.Prelude.{slice_index}
+use Rattle.std.proofs.Common.{ℕ, ◌+◌, ◌^◌, ◌<◌, ◌≡◌, sym, ap, ap₂, subst, ◌∙◌, arith, List, [], ◌∷◌, ◌++◌, length, Some, None, slice_get, inl, inr}
 use Rattle.std.specs.List.{All}
 use Rattle.std.proofs.lemmas.Bool.{cases_lt}
 use Rattle.std.proofs.lemmas.List.Elements.{All-push}
@@ -11,7 +10,6 @@ use Rattle.flow_graph.specs.Graph.{Graph}
 use Rattle.place_model.specs.Cells.{IsAt}
 use Rattle.place_model.specs.Legal.{IsLegal, IsJumpOf}
 use Rattle.prom_split.specs.Parts.{width_of}
-use Rattle.prom_split.specs.Images.{FitWords}
 use Rattle.prom_split.specs.Microword.{AreWords, IsWordOf, IsInstrWord, word_at, word_with, free_word}
 use Rattle.prom_split.proofs.ListSteps.{length_push, number_before, number_last, some_back}
 

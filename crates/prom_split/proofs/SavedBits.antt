@@ -1,5 +1,5 @@
 -- Letters of words in the canonical text of an image.
-use Rattle.std.proofs.Common.{ℕ, zero, suc, ◌+◌, ◌-◌, ◌*◌, ◌/◌, ◌%◌, ◌^◌, ◌<◌, ◌≤◌, ◌≡◌, ◌⊎◌, inl, inr, refl, sym, ap, subst, ◌∙◌, arith, List, [], ◌∷◌, ◌++◌, length, get_or, Option, Some, slice_get}
+use Rattle.std.proofs.Common.{ℕ, zero, suc, ◌+◌, ◌-◌, ◌*◌, ◌/◌, ◌%◌, ◌<◌, ◌≡◌, inl, inr, refl, sym, ap, ◌∙◌, arith, List, [], ◌∷◌, ◌++◌, length, get_or, Option, Some, slice_get}
 use Rattle.std.specs.Prelude.{slice_index}
 use Rattle.std.specs.Int.{bit_at}
 use Rattle.std.proofs.lemmas.Bool.{cases_lt}
@@ -7,10 +7,10 @@ use Rattle.std.proofs.lemmas.Nat.{div_below}
 use Rattle.std.proofs.Math.Nat.{mod-lt}
 use Rattle.bpnf.specs.Frames.{letter, letters_of, frame}
 use Rattle.bpnf.specs.Canonical.{frames_of, image_text}
-use Rattle.bpnf.specs.Image.{Image, IsImage, IsWidth}
+use Rattle.bpnf.specs.Image.{Image, IsWidth}
 use Rattle.field_decl.specs.Declaration.{Declaration}
 use Rattle.prom_split.specs.Parts.{width_of}
-use Rattle.prom_split.specs.Images.{AreImages, words_in, shown_bit}
+use Rattle.prom_split.specs.Images.{AreImages, words_in}
 use Rattle.prom_split.specs.SavedBits.{letter_place, IsSavedBit}
 use Rattle.prom_split.proofs.ListSteps.{element_at}
 use Rattle.prom_split.proofs.Widths.{width_some, cover}

@@ -1,21 +1,20 @@
 -- Splitting: what each image shows.
-use Rattle.std.proofs.Common.{ℕ, zero, suc, ◌+◌, ◌-◌, ◌*◌, ◌/◌, ◌%◌, ◌^◌, ◌<◌, ◌≤◌, ◌≡◌, ◌⊎◌, refl, sym, ap, subst, ◌∙◌, arith, List, [], ◌∷◌, ◌++◌, length, get_or, Option, Some, None, slice_get, inl, inr}
+use Rattle.std.proofs.Common.{ℕ, ◌+◌, ◌*◌, ◌/◌, ◌%◌, ◌^◌, ◌<◌, ◌≤◌, ◌≡◌, sym, ap, subst, ◌∙◌, arith, List, [], ◌∷◌, ◌++◌, length, get_or, Option, Some, slice_get, inl, inr}
 use Rattle.std.specs.Prelude.{map, slice_index}
-use Rattle.std.specs.List.{All}
 use Rattle.std.specs.Int.{bit_at}
 use Rattle.std.proofs.lemmas.Bool.{cases_lt}
 use Rattle.std.proofs.lemmas.List.{get_or-map, length-map}
 use Rattle.std.proofs.lemmas.List.Elements.{All-map, All-get_or, All-from_get_or}
-use Rattle.std.proofs.lemmas.Option.{slice_get_past, slice_get_within}
+use Rattle.std.proofs.lemmas.Option.{slice_get_past}
 use Rattle.std.proofs.lemmas.Nat.{pow_pos, div_below, le-div, div-add-mod'}
 use Rattle.std.proofs.lemmas.Nat.Bits.{bit_at_above, bit_at-zero}
 use Rattle.std.proofs.Math.Nat.{mod-lt}
 use Rattle.bpnf.specs.Image.{Image, IsImage, IsWidth}
 use Rattle.field_decl.specs.Declaration.{Declaration}
 use Rattle.prom_split.specs.Parts.{width_of}
-use Rattle.prom_split.specs.Images.{FitWords, FitImages, AreImages, words_in, shown_bit, image_count}
+use Rattle.prom_split.specs.Images.{FitWords, AreImages, words_in, shown_bit, image_count}
 use Rattle.prom_split.proofs.ImageBits.{bit_at-shr, bit_at-low}
-use Rattle.prom_split.proofs.ListSteps.{element_at, element_cases, length_push, some_back}
+use Rattle.prom_split.proofs.ListSteps.{element_at, element_cases, length_push}
 
 -- the bits of a word that stand in image k
 abbrev pub cut : ℕ → ℕ → ℕ → ℕ

@@ -1,6 +1,6 @@
 -- A cut between pieces changes nothing, and a text's lines alone decide what a reader tells.
 use Rattle.std.proofs.Common.{◌≡◌, ℕ, zero, suc, ◌+◌, ◌<◌, ◌≤◌, ◌==◌, Bool, true, false, not, cond, List, [], ◌∷◌, ◌++◌, length, take, Option, Some, None, refl, sym, ap, subst, ◌∙◌, inl, inr, append_assoc, arith}
-use Rattle.std.specs.List.{slice_split, onto_first, position_or_len}
+use Rattle.std.specs.List.{slice_split, onto_first}
 use Rattle.std.proofs.lemmas.Bool.{cases_Bool}
 use Rattle.std.proofs.lemmas.Bool.Decides.{nat_tests}
 use Rattle.std.proofs.lemmas.List.{append-nil, take_all}
@@ -8,10 +8,9 @@ use Rattle.std.proofs.lemmas.List.Splits.{length-slice_split}
 use Rattle.std.proofs.lemmas.List.Sums.{prefix_len-le-length}
 use Rattle.ref_text.specs.Form.{form}
 use Rattle.ref_text.specs.Fault.{text_fault, line_of, is_empty}
-use Rattle.ref_text.specs.Reading.{Reader, first, with_line, with_bad, with_bytes, judged, at_end, told, lf_at, fed_good, after_good, fed_of, after_feed}
+use Rattle.ref_text.specs.Reading.{Reader, first, with_line, with_bad, with_bytes, judged, at_end, told, lf_at, after_good, fed_of, after_feed}
 use Rattle.ref_text.specs.Pieces.{on, after, events_at, events, brought, IsFed, or_further, lines_bring}
 use Rattle.ref_text.specs.declared.why.Why.{Why}
-use Rattle.ref_text.specs.declared.events.Event.{Event}
 use Rattle.ref_text.specs.declared.events.Event.TheVariants as event
 use Rattle.ref_text.specs.declared.events.Fed.{Fed}
 

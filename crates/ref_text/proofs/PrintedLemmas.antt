@@ -1,18 +1,17 @@
 -- A printed line is one line, and is read as itself.
-use Rattle.std.proofs.Common.{◌≡◌, ℕ, zero, suc, ℤ, pos, negsuc, neg_ℤ, ◌+◌, ◌<◌, ◌≤◌, ◌^◌, ◌==◌, Bool, true, false, not, cond, List, [], ◌∷◌, ◌++◌, length, map, take, drop, get_or, Option, Some, None, refl, sym, ap, ◌∙◌, append_assoc, add-one, arith}
-use Rattle.std.specs.Prelude.{◌&&◌, All, nat_lt, codes, decimal, flat_map}
+use Rattle.std.proofs.Common.{◌≡◌, ℕ, zero, suc, ℤ, pos, negsuc, ◌+◌, ◌<◌, ◌^◌, ◌==◌, Bool, true, false, List, [], ◌∷◌, ◌++◌, length, map, take, drop, Option, Some, None, refl, ap, ◌∙◌, append_assoc, add-one, arith}
+use Rattle.std.specs.Prelude.{◌&&◌, All, codes, decimal, flat_map}
 use Rattle.std.specs.Bool.{if◌then◌else◌}
-use Rattle.std.specs.List.{slice_split, list_all, position_or_len, before_first, after_first}
+use Rattle.std.specs.List.{list_all, position_or_len, before_first, after_first}
 use Rattle.std.specs.Fmt.{signed_decimal}
 use Rattle.std.proofs.lemmas.Bool.Decides.{nat_tests}
-use Rattle.std.proofs.lemmas.List.{append-nil}
-use Rattle.std.proofs.lemmas.List.Elements.{All-append, All-cons, All-nil, All-head, All-tail}
-use Rattle.std.proofs.lemmas.List.Splits.{slice_split_at, slice_split_none}
+use Rattle.std.proofs.lemmas.List.Elements.{All-append, All-nil}
+use Rattle.std.proofs.lemmas.List.Splits.{slice_split_at}
 use Rattle.clause_base.specs.Lit.{var_of}
 use Rattle.clause_base.specs.declared.line.Line.{Line}
 use Rattle.ref_text.specs.declared.words.Signed.{Signed}
 use Rattle.ref_text.specs.Words.{words_of, value_of, with_value, values_of}
-use Rattle.ref_text.specs.Form.{is_zero, is_plain, literal_of, size_of, has_zero, Written, line_in, written_in, form}
+use Rattle.ref_text.specs.Form.{is_zero, is_plain, literal_of, size_of, has_zero, Written, written_in, form}
 use Rattle.ref_text.specs.Text.{number_word, literal_word, line_text}
 use Rattle.ref_text.specs.Printed.{CanBeRead, SaysLine}
 use Rattle.ref_text.proofs.WordLemmas.{onto, onto_none}

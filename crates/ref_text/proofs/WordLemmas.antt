@@ -1,11 +1,9 @@
 -- What the words of a line stand for, word by word.
-use Rattle.std.proofs.Common.{◌≡◌, ℕ, ◌+◌, ◌<◌, Bool, true, false, cond, List, [], ◌∷◌, ◌++◌, length, map, drop, get_or, Option, Some, None, refl, sym, ap, ◌∙◌, append_assoc, arith}
-use Rattle.std.specs.Prelude.{MatchOption, nat_lt}
-use Rattle.std.specs.List.{list_all}
+use Rattle.std.proofs.Common.{◌≡◌, ℕ, ◌+◌, ◌<◌, Bool, true, false, cond, List, [], ◌∷◌, ◌++◌, length, drop, get_or, Option, Some, None, refl, sym, ap, ◌∙◌, append_assoc}
+use Rattle.std.specs.Prelude.{MatchOption}
 use Rattle.std.proofs.lemmas.List.{at_drop_more, append-nil}
 use Rattle.ref_text.specs.declared.words.Signed.{Signed}
 use Rattle.ref_text.specs.Words.{value_of, with_value, values_of}
-use Rattle.ref_text.specs.Form.{size_of}
 
 -- values and then those of further words
 abbrev pub onto : List Signed → Option (List Signed) → Option (List Signed)

@@ -1,6 +1,6 @@
 -- What a reader of refutation lines has read, byte by byte, and what it tells. This project's own.
 
-use Rattle.std.specs.Prelude.{ℕ, ◌+◌, ◌-◌, ◌==◌, not, Bool, true, false, if◌then◌else◌, List, [], ◌∷◌, ◌++◌, length, take, drop, Option, Some, None}
+use Rattle.std.specs.Prelude.{ℕ, ◌+◌, ◌==◌, Bool, false, if◌then◌else◌, List, [], ◌∷◌, ◌++◌, length, take, Option, Some, None}
 use Rattle.std.specs.List.{position_or_len}
 use Rattle.clause_base.specs.declared.line.Line.{Line}
 use Rattle.ref_text.specs.Form.{form}

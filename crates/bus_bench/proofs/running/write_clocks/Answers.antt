@@ -1,4 +1,4 @@
-use Rattle.std.proofs.Common.{◌≡◌, ◌+◌, ◌-◌, ◌∙◌, ap, arith}
+use Rattle.std.proofs.Common.{◌≡◌, ◌-◌, ◌∙◌, ap, arith}
 use Rattle.field_decl.specs.Decls.{declaration_of}
 use Rattle.flow_sim.proofs.TextSteps.{written_all, goes_further}
 use Rattle.bus_bench.specs.Chip.{BenchState, buses_for, text_from}

@@ -1,6 +1,5 @@
-use Rattle.std.proofs.Common.{◌≡◌, ◌-◌, ℕ, ℤ, List, ◌∷◌, ◌++◌, length, ap, sym, subst, ◌∙◌, arith}
+use Rattle.std.proofs.Common.{◌≡◌, ◌-◌, ℕ, ℤ, List, ap, sym, subst, ◌∙◌}
 use Rattle.std.specs.Prelude.{All}
-use Rattle.std.proofs.lemmas.List.{length-append}
 use Rattle.clause_base.specs.Clauses.{Clauses, IsClause}
 use Rattle.trail.specs.Assignment.{Assignment, IsTrail, level_of}
 use Rattle.placer.specs.Learning.{Asserts}

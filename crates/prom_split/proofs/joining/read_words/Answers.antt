@@ -1,4 +1,4 @@
-use Rattle.std.proofs.Common.{ℕ, List, [], ◌∷◌, ◌++◌, ◌+◌, ◌*◌, ◌%◌, ◌^◌, ◌<◌, ◌≤◌, ◌≡◌, length, sym, ap, subst, ◌∙◌, arith}
+use Rattle.std.proofs.Common.{ℕ, ◌*◌, ◌%◌, ◌^◌, ◌≤◌, ◌≡◌, length, ap, ◌∙◌, arith}
 use Rattle.field_decl.specs.Decls.{declaration_of}
 use Rattle.prom_split.specs.Parts.{width_of}
 use Rattle.prom_split.proofs.JoinSteps.{read_push}

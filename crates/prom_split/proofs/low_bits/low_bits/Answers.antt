@@ -1,4 +1,4 @@
-use Rattle.std.proofs.Common.{◌≡◌, ◌^◌, ◌-◌, ◌%◌, ℕ, ap, ◌∙◌}
+use Rattle.std.proofs.Common.{◌-◌, ℕ, ap, ◌∙◌}
 use Rattle.std.specs.Prelude.{bit_and}
 use Rattle.std.proofs.lemmas.Nat.{one_shl, and_mask}
 use Rattle.prom_split.proofs.low_bits.low_bits.Goals as goal

@@ -1,4 +1,4 @@
-use Rattle.std.proofs.Common.{ℕ, ◌*◌, ◌/◌, ◌<◌, ◌≡◌, refl, sym, ◌∙◌, arith}
+use Rattle.std.proofs.Common.{◌*◌, ◌/◌, ◌<◌, refl, sym, ◌∙◌}
 use Rattle.field_decl.specs.KBits.{gathered_bits}
 use Rattle.field_decl.proofs.SpreadBits.{gathers_back}
 use Rattle.prom_split.proofs.Widths.{share_some}

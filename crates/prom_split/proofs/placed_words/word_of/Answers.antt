@@ -1,4 +1,4 @@
-use Rattle.std.proofs.Common.{◌≡◌, Some, ap, ◌∙◌}
+use Rattle.std.proofs.Common.{Some, ap, ◌∙◌}
 use Rattle.field_decl.specs.Declaration.{Declaration}
 use Rattle.flow_graph.specs.Graph.{graph_of}
 use Rattle.prom_split.specs.Microword.{word_with}

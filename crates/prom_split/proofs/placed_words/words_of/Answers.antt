@@ -1,4 +1,4 @@
-use Rattle.std.proofs.Common.{ℕ, ◌+◌, ◌*◌, ◌/◌, ◌%◌, ◌<◌, ◌≡◌, sym, ap, subst, ◌∙◌, arith}
+use Rattle.std.proofs.Common.{◌/◌, ◌%◌, ◌≡◌, sym, ap, subst, ◌∙◌, arith}
 use Rattle.mcu_jumps.specs.Position.{Position, IsCell, address_of}
 use Rattle.flow_graph.specs.Graph.{graph_of}
 use Rattle.prom_split.proofs.PlacedSteps.{cell_at, placed_push}

@@ -1,9 +1,9 @@
-use Rattle.std.proofs.Common.{ℕ, List, [], ◌∷◌, ◌++◌, ◌+◌, ◌*◌, ◌/◌, ◌%◌, ◌^◌, ◌<◌, ◌≤◌, ◌≡◌, refl, sym, ap, subst, ◌∙◌, arith}
+use Rattle.std.proofs.Common.{◌*◌, ◌/◌, ◌%◌, ◌^◌, ◌≡◌, sym, ap, subst, ◌∙◌, arith}
 use Rattle.std.specs.Prelude.{map}
 use Rattle.bpnf.specs.Image.{Image, IsImage}
 use Rattle.field_decl.specs.Decls.{declaration_of}
 use Rattle.prom_split.specs.Parts.{width_of}
-use Rattle.prom_split.proofs.SplitSteps.{Written, image_of, image_with, image_is, image_of_fits, written_push, are_images}
+use Rattle.prom_split.proofs.SplitSteps.{image_of, image_with, image_is, image_of_fits, written_push, are_images}
 use Rattle.prom_split.proofs.Widths.{width_is, width_some, cover}
 use Rattle.prom_split.proofs.splitting.split.Goals as goal
 

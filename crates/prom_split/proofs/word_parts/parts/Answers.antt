@@ -1,4 +1,4 @@
-use Rattle.std.proofs.Common.{ℕ, ◌<◌, ◌≤◌, ◌≡◌, arith}
+use Rattle.std.proofs.Common.{◌≤◌, arith}
 use Rattle.prom_split.proofs.FieldBits.{low_fits}
 use Rattle.prom_split.proofs.Widths.{few_kbits}
 use Rattle.prom_split.proofs.word_parts.parts.Goals as goal

@@ -1,10 +1,9 @@
-use Rattle.std.proofs.Common.{◌≡◌, ◌==◌, ◌+◌, length, drop, ◌++◌, [], ◌∷◌, Some, None, ap, sym, subst, ◌∙◌, refl, rules, tests, arith}
+use Rattle.std.proofs.Common.{◌≡◌, ◌==◌, ◌+◌, length, drop, ◌++◌, [], ◌∷◌, Some, None, ap, sym, ◌∙◌, rules, tests, arith}
 use Rattle.std.proofs.lemmas.Iterator.Consumers.{YieldsList-turn, YieldsList-end}
 use Rattle.std.proofs.lemmas.Iterator.Splits.{YieldsList-from_slice_split}
-use Rattle.std.proofs.lemmas.List.{length_push, at_drop_all, append-nil}
-use Rattle.ref_text.specs.declared.words.Signed.{Signed}
+use Rattle.std.proofs.lemmas.List.{length_push, at_drop_all}
 use Rattle.ref_text.specs.Words.{words_of, value_of, values_of}
-use Rattle.ref_text.proofs.WordLemmas.{onto, onto_none, onto_nothing, onto_more, onto_end, values_of-drop}
+use Rattle.ref_text.proofs.WordLemmas.{onto, onto_nothing, onto_more, onto_end, values_of-drop}
 use Rattle.ref_text.proofs.forms.read_values.Goals as goal
 
 pub returns-in-None-value_of : goal.returns-in-None-value_of

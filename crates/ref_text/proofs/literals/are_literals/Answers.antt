@@ -1,4 +1,4 @@
-use Rattle.std.proofs.Common.{◌≡◌, ◌∙◌, ◌-◌, sym, length}
+use Rattle.std.proofs.Common.{◌∙◌, ◌-◌, sym, length}
 use Rattle.ref_text.proofs.MarkLemmas.{each_literal}
 use Rattle.ref_text.proofs.literals.are_literals.Goals as goal
 

@@ -1,4 +1,4 @@
-use Rattle.std.proofs.Common.{◌≡◌, ◌∙◌, ℕ, ◌-◌, ◌<◌, sym, ap, length, map, take, true, false, refl, get_or, length-set, arith}
+use Rattle.std.proofs.Common.{◌≡◌, ◌∙◌, ℕ, ◌-◌, ◌<◌, sym, ap, length, true, false, refl, length-set}
 use Rattle.std.specs.Prelude.{◌&&◌, not, slice_index_or}
 use Rattle.ref_text.specs.declared.words.Signed.{Signed}
 use Rattle.ref_text.specs.Fault.{is_variable, are_literals}

@@ -1,4 +1,4 @@
-use Rattle.std.proofs.Common.{◌≡◌, ◌++◌, ◌∙◌, ap, codes, flat_map, append_assoc, rules}
+use Rattle.std.proofs.Common.{◌≡◌, ◌++◌, codes, flat_map, append_assoc, rules}
 use Rattle.std.proofs.lemmas.Result.{err_from_is_err_and}
 use Rattle.ref_text.specs.Text.{number_word, literal_word}
 use Rattle.ref_text.proofs.TextLemmas.{Begins-front}

@@ -1,4 +1,4 @@
-use Rattle.std.proofs.Common.{ℕ, ◌<◌, ◌^◌, sym, subst}
+use Rattle.std.proofs.Common.{◌<◌, ◌^◌, sym, subst}
 use Rattle.field_decl.specs.Decls.{declaration_of}
 use Rattle.prom_split.specs.declared.word_parts.WordParts.{WordParts}
 use Rattle.bus_bench.proofs.ClockSteps.{kbits_below}
