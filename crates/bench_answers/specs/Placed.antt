@@ -19,7 +19,7 @@ pub record CannotSave (files : List SavedFile) (old new : ShelfState) (s : Statu
   pub status_is : s ≡ status.ShelfFault
   pub text_is : text ≡ cannot_save new.last_failed
 
--- all files were saved, without a read, up to a later state in which no file is another
+-- all files were saved, without a read, and up to a later state no file changed
 pub record AreSaved (files : List SavedFile) (old new : ShelfState) : Type 0 where
   pub after : ShelfState
   pub saved : IsSaved old after files

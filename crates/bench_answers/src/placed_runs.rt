@@ -33,9 +33,9 @@ use std::alloc::Global;
 pub struct PlacedRun<'a> {
     /// The name of the output, of at most 200 bytes.
     pub out: &'a str,
-    /// The name under which the script is refused.
+    /// The name of the script, which a refusal of its bytes tells; the file is not read again.
     pub script: &'a str,
-    /// How many clocks are run.
+    /// How many clocks are run; the command line allows 0 to 65,536.
     pub clocks: u32,
 }
 

@@ -68,7 +68,8 @@ fn write_run<K: Sink>(
 }
 
 /// Answers `run OUT SCRIPT clocks=N`: the trace of the images saved under `name`, or the reply that refuses the first
-/// file that is not had, or the first right shift with K bits. Names have at most 200 and 220 bytes. No file changes.
+/// file that is not had, or the first cell whose word orders the right shift with K bits other than 0. `name` has at
+/// most 200 bytes, so that its suffixes fit a shelf's names, and `script` at most 220. No file changes.
 pub fn run_saved<S: Shelf, K: Sink>(
     alloc: Global,
     shelf: &mut S,

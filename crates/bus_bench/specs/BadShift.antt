@@ -7,7 +7,7 @@ use Rattle.field_decl.specs.Declaration.{Declaration}
 use Rattle.prom_split.specs.declared.word_parts.WordParts.{WordParts}
 use Rattle.bus_bench.specs.Chip.{parts_at}
 
--- the right shift, where a word orders it, has no K bits
+-- the K bits are 0 where a word orders the right shift
 abbrev pub ShiftsUnmasked : WordParts → Type 0
 ShiftsUnmasked parts = IsTrue (is_shift parts.func) → parts.kbits ≡ 0
 

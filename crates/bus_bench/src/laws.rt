@@ -22,7 +22,7 @@ pub fn chip_matches_flow()
 {}
 
 /// The words of a legal placement hold the program, they are one list, and words that hold a program have no right
-/// shift with K bits.
+/// shift with K bits other than 0.
 pub fn words_of_a_placement()
     ensures hold { (g : Graph) (place : List Position) (words : List ℕ) → IsLegal g place → AreWords g place words → HoldsProgram g place words }
     ensures one { (g : Graph) (place : List Position) (words others : List ℕ) → IsLegal g place → AreWords g place words → AreWords g place others → words ≡ others }

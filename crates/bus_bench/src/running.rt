@@ -77,9 +77,9 @@ fn write_clocks<K: Sink>(
 
 /// Runs the bench on these words for so many clocks, and writes a line for each clock, with its cell as `row.column`.
 ///
-/// Any words are run, with any declaration, but for words that order the right shift with K bits: then the first such
-/// cell is told, and nothing is written. After `Failed` a prefix of the text was written. Memory is taken before the
-/// first byte is written.
+/// Any words are run, with any declaration, but for words that order the right shift with K bits other than 0: then the
+/// first such cell is told, and nothing is written. After `Failed` a prefix of the text was written. Memory is taken
+/// before the first byte is written.
 pub fn run<K: Sink>(
     alloc: Global,
     words: &Words,

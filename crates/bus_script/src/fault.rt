@@ -45,8 +45,13 @@ pub(crate) enum LineFault {
 /// Why a text gives no script.
 #[derive(Clone, Copy, Debug, PartialEq, Eq)]
 pub enum ScriptFault {
-    /// The first refused line, from 1.
-    At { line: u32, kind: ScriptKind },
+    /// A line is refused.
+    At {
+        /// The first refused line, from 1.
+        line: u32,
+        /// What is wrong in it.
+        kind: ScriptKind,
+    },
     /// Memory was refused.
     OutOfMemory,
 }

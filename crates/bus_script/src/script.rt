@@ -62,8 +62,8 @@ impl Script {
     }
 }
 
-/// The buses of a clock, from 0. After the last clock that the script gives, all buses are 0 and
-/// the memory drives the M bus.
+/// The buses of a clock, from 0. After the last clock that the script gives I, PX and SX are 0, and the memory drives the
+/// M bus.
 pub fn at(script: &Script, clock: u32) -> Buses
     ensures exact { result ≡ buses_at script.now clock }
     ensures fits { (slices : ℕ) → IsScriptFor slices script.now → AreBusesFor slices result }

@@ -20,7 +20,7 @@ fn add_place(line: &mut ArrayVec<u8, LINE_BYTES>, place: &[u8], clock: u32)
     add_text(line, place);
 }
 
-// Adds a word of an array.
+// Adds a word of an array of two bits a slice, in hexadecimal: a digit for each two slices, rounded up.
 fn add_word(line: &mut ArrayVec<u8, LINE_BYTES>, slices: u8, word: u32)
     requires most { slices ≤ 16 }
     requires room { length line.old.items + 8 ≤ 2048 }
@@ -151,7 +151,7 @@ fn add_fields_and_links(line: &mut ArrayVec<u8, LINE_BYTES>, slices: u8, values:
 /// slices.
 ///
 /// The place is `row.column` on the chip, and a label's name or `-` in the symbolic flow. Words have
-/// a hexadecimal digit for each two slices, and the links begin with the highest slice.
+/// `(slices + 1) / 2` hexadecimal digits, the links begin with the highest slice, and the line ends with LF.
 #[tactic(auto, unfolding(crate::specs::TraceLine::trace_line))]
 pub fn view_line(place: &[u8], view: &ClockView, slices: u8, out: &mut ArrayVec<u8, 2048>)
     requires place { length place.now ≤ 32 }

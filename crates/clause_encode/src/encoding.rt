@@ -18,8 +18,8 @@ use flow_graph::Program;
 use io_base::OutOfMemory;
 use std::alloc::Global;
 
-/// The number of variables: 48 for the cell of each label, one for each pair of labels, and three for
-/// the ways of each jump.
+/// The number of variables: 48 for the cell of each label, one for each pair of labels, and three for each instruction,
+/// the ways of a `goto`, which the others leave unused.
 pub fn var_count(program: &Program) -> u32
     ensures { result ≡ var_count_of (length (graph_of program.now).instrs) }
 {

@@ -15,7 +15,7 @@ use smallvec::SmallVec;
 use std::alloc::Global;
 
 /// The clause of a number, which counts from 1: the same as that of the whole list. Up to eight literals lie in place,
-/// so that most clauses take no memory.
+/// so that most clauses take no memory. It fails only for want of memory.
 pub fn clause_at(
     alloc: Global,
     program: &Program,

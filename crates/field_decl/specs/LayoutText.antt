@@ -5,7 +5,7 @@ use Rattle.field_decl.specs.Spaced.{Run, spaced}
 use Rattle.field_decl.specs.declared.field.Field.{Field}
 use Rattle.field_decl.specs.Declaration.{Declaration}
 
--- a word and a decimal number as they are printed
+-- a word as it is printed
 abbrev pub name_run : List ℕ → Run
 name_run text = (text, Name)
 

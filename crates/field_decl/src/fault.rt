@@ -21,7 +21,7 @@ pub enum AsmKind {
     NameTooLong(u32),
     /// The first word names no directive; in a layout also a first word with `:` after it.
     UnknownDirective,
-    /// The words are not of the directive's form.
+    /// The words are not of the form of the directive, or of an instruction.
     Shape,
     /// A declaration after an instruction.
     Late,
@@ -97,8 +97,13 @@ pub enum LineFault {
 /// Why a layout gives no declaration.
 #[derive(Clone, Copy, Debug, PartialEq, Eq)]
 pub enum DeclFault {
-    /// The first refused line, from 1, or line 0 for what the whole text lacks.
-    At { line: u32, kind: AsmKind },
+    /// A line is refused.
+    At {
+        /// The first refused line, from 1, or 0 for what the whole text lacks.
+        line: u32,
+        /// What is wrong in it.
+        kind: AsmKind,
+    },
     /// Memory was refused.
     OutOfMemory,
 }

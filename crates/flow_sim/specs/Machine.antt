@@ -49,7 +49,7 @@ pub record IsMachineFor (slices : ℕ) (s : Machine) : Type 0 where
   pub memory : All (λ word. word < 4 ^ slices) s.memory
   pub pr : s.pr < 16
 
--- an order for an array of this many slices: the right shift has no mask
+-- an order for an array of this many slices: the mask of the right shift is 0
 pub record IsOrderFor (slices : ℕ) (order : Order) : Type 0 where
   pub mask : order.mask < 4 ^ slices
   pub shift : IsTrue (is_shift order.func) → order.mask ≡ 0

@@ -13,7 +13,7 @@ use std::marker::Model;
 pub struct Order {
     /// The function code of the slices.
     pub func: Fn7,
-    /// What stands on the K bus, a bit for each bit of the slices.
+    /// What stands on the K bus, a bit for each bit of the slices, slice 0 lowest.
     pub mask: u32,
     /// The flag functions.
     pub ctl: FlagCtl,

@@ -7,7 +7,7 @@ use mcu_jumps::Cell;
 pub enum RunFault {
     /// A write to the sink failed. A prefix of the text was written.
     Failed,
-    /// The word of this cell orders the right shift with K bits, which is not modelled. The symbolic
+    /// The word of this cell orders the right shift with K bits other than 0, which is not modelled. The symbolic
     /// flow never answers it.
     ShiftMask(Cell),
     /// Memory was refused, before the first byte was written.

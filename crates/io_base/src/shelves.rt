@@ -4,7 +4,8 @@ ghost use Rattle.io_base.specs.Shelf.{ShelfState, GoesOn, HasCause, CountsRead, 
 
 use crate::Failed;
 
-/// Named files that are read at any place, made empty, and added to at their end.
+/// Named files that are read at any place, made empty, and added to at their end. A name has at most 220 bytes: the 200
+/// of a name on the command line, a suffix of at most 10, and some to spare (this project's own choice).
 ///
 /// A shelf that keeps its content to itself, as the files of the system do, promises nothing of what
 /// reads give. One that is not honest promises nothing of a file after `create` and `append`.
@@ -25,7 +26,8 @@ pub trait Shelf {
         ensures goes_on { GoesOn (state self.old) (state self.new) }
         ensures cause { HasCause (state self.old) (state self.new) name.now result };
 
-    /// Makes the file `name` empty, whether or not it was there.
+    /// Makes the file `name` empty, whether or not it was there. After `Failed` the file of an honest shelf is as it was,
+    /// or empty.
     fn create(&mut self, name: &str) -> Result<(), Failed>
         requires { length name.now ≤ 220 }
         ensures ok { IsTold (state self.old) →
@@ -37,7 +39,8 @@ pub trait Shelf {
         ensures goes_on { GoesOn (state self.old) (state self.new) }
         ensures cause { HasCause (state self.old) (state self.new) name.now result };
 
-    /// Adds the piece at the end of the file `name`. A name that is not there counts as an empty file.
+    /// Adds the piece at the end of the file `name`. A name that is not there counts as an empty file. After `Failed` the
+    /// file of an honest shelf is as it was, or its old bytes and a prefix of the piece.
     fn append(&mut self, name: &str, piece: &[u8]) -> Result<(), Failed>
         requires { length name.now ≤ 220 }
         ensures ok { IsTold (state self.old) →

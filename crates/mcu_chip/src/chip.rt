@@ -6,7 +6,7 @@ use std::marker::Model;
 /// (this project's own choice).
 #[derive(Clone, Copy, Debug, PartialEq, Eq)]
 pub struct Mcu {
-    /// The present microprogram address.
+    /// The present cell.
     pub cell: Cell,
     /// The F latch: the last flag input.
     pub f: bool,

@@ -1,5 +1,5 @@
-//! Where a jump leads. The table of the data sheet is by whole division; here the address bits
-//! that stay are masked out of the row and the column.
+//! Where a jump leads. The definition and docs/machine.md tell it by whole division; here, as in the data sheet's
+//! table, the address bits that stay are masked out of the row and the column.
 ghost use Rattle.std.specs.Prelude.{◌≡◌, ◌<◌};
 ghost use Rattle.mcu_jumps.specs.Position.{IsCell};
 ghost use Rattle.mcu_jumps.specs.NextAddress.{next_of, lands, tested, outcome_count};

@@ -12,16 +12,16 @@ pub enum Kind {
     Enable,
     /// `iff`: by this clock's flag input.
     IfF,
-    /// `ifc`: by the C flag.
+    /// `ifc`: by the C flag as the clock begins.
     IfC,
-    /// `ifz`: by the Z flag.
+    /// `ifz`: by the Z flag as the clock begins.
     IfZ,
-    /// `onpr`: by the PR latch.
+    /// `onpr`: by the PR latch as the clock begins.
     OnPr,
-    /// `onpx`: by the PX bus.
+    /// `onpx`: by PX7..PX4 of this clock; the latch takes SX3..SX0 at its end.
     OnPx,
-    /// `onleft`: by the two left bits of the PR latch.
+    /// `onleft`: by bits 3 and 2 of the PR latch as the clock begins.
     OnLeft,
-    /// `onright`: by the two right bits of the PR latch.
+    /// `onright`: by bits 1 and 0 of the PR latch as the clock begins.
     OnRight,
 }

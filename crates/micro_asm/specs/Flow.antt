@@ -8,7 +8,7 @@ use Rattle.mcu_jumps.specs.Landing.{outcomes_of}
 use Rattle.field_decl.specs.declared.fault.AsmKind.{AsmKind}
 use Rattle.field_decl.specs.declared.fault.AsmKind.TheVariants as kinds
 
--- the flow statements by name, and their targets
+-- the flow statement of this name, where there is one
 unfoldable pub kind_named : List ℕ → Option Kind
 kind_named name =
     if bytes_eq name (codes "goto") then Some Goto
@@ -31,7 +31,7 @@ with_targets targets (Some kind) =
     else if not (list_any is_some targets) then Err kinds.NoTarget
     else Ok kind
 
--- the statement of this name with these targets
+-- the statement of this name, where these may be its targets
 abbrev pub flow_kind : List ℕ → List (Option (List ℕ)) → Result Kind AsmKind
 flow_kind name targets = with_targets targets (kind_named name)
 

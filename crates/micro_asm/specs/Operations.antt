@@ -61,7 +61,7 @@ operation_code slices kbus (operations.Code function group register mask) =
     else coded_for slices kbus function group mask (register_named register)
 operation_code slices kbus (operations.Mnemonic name register) = mnemonic_code slices kbus register (find (λ row. bytes_eq name row.name) mnemonic_table)
 
--- some K bits give the mask, and the right shift has none
+-- some K bits give the mask, and that of the right shift is 0
 pub record FitsBus (slices kbus : ℕ) (code : ℕ × ℕ) : Type 0 where
   pub kbits : IsTrue (has_kbits slices kbus code.1)
   pub shift : IsTrue (is_shift code.0) → code.1 ≡ 0

@@ -61,7 +61,7 @@ unknown_line facts start = first_line (unknown_start facts.instrs start) (first_
 
 -- ---- the program
 
--- a label is the place of its instruction
+-- the place of the instruction with this name, where there is one
 abbrev pub label_place : List NamedInstr → List ℕ → Option ℕ
 label_place instrs name = position (λ instr. bytes_eq name instr.label) instrs
 
@@ -69,7 +69,7 @@ label_place instrs name = position (λ instr. bytes_eq name instr.label) instrs
 abbrev pub pin_of : List NamedInstr → PinLine → Pin
 pin_of instrs pin = record { label = unwrap_or (label_place instrs pin.label) 0; cell = pin.cell }
 
--- `-` is the trap
+-- the place of a target's instruction; none for `-`, the trap
 abbrev pub target_place : List NamedInstr → Option (List ℕ) → Option ℕ
 target_place instrs target = option_and_then (label_place instrs) target
 
@@ -86,7 +86,7 @@ instr_of instrs instr = record {
   targets = map (target_place instrs) instr.targets;
 }
 
--- 32 rows where no bound is given
+-- the graph of what the lines say, with 32 rows where no bound is given
 abbrev pub graph_with : Facts → StartLine → Declaration → Graph
 graph_with facts start declaration = record {
   decl = declaration;

@@ -35,7 +35,7 @@ pub struct NamedInstr {
     pub label: Name,
     /// The function code of the slices.
     pub func: Fn7,
-    /// What the K bits put on the K bus, a bit for each bit of the slices.
+    /// What the K bits put on the K bus, a bit for each bit of the slices, slice 0 lowest.
     pub mask: u32,
     /// Its flag functions.
     pub ctl: FlagCtl,

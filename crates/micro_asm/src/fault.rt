@@ -10,8 +10,13 @@ use std::alloc::AllocError;
 /// Why a source gives no program.
 #[derive(Clone, Copy, Debug, PartialEq, Eq)]
 pub enum AsmFault {
-    /// The first refused line, from 1, or line 0 for what the whole source lacks.
-    At { line: u32, kind: AsmKind },
+    /// A line is refused.
+    At {
+        /// The first refused line, from 1, or 0 for what the whole source lacks.
+        line: u32,
+        /// What is wrong in it.
+        kind: AsmKind,
+    },
     /// Memory was refused.
     OutOfMemory,
 }

@@ -1,4 +1,4 @@
-//! Sets of labels in source order.
+//! Adding a label to a set that keeps source order.
 
 ghost use Rattle.std.specs.Prelude.{◌≡◌, ◌++◌, ◌∷◌, [], false, OnOk, OnErr};
 ghost use Rattle.std.specs.List.{list_any};

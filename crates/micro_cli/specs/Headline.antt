@@ -1,7 +1,7 @@
 -- What `make` promises of its answers, by the words, the files before and after, the bytes written and the status.
--- The promises are this project's own. Each speaks of a shelf that tells its files, and where it speaks of what was
--- written, of a sink that tells its bytes. A budget that it asks to be at most 1,000,000 is one that the command line
--- takes.
+-- The promises are this project's own. Each speaks of a shelf that tells its files and, but for `ReadsBack`, is honest;
+-- where it speaks of what was written, of a sink that tells its bytes. A budget that it asks to be at most 1,000,000 is
+-- one that the command line takes.
 use Rattle.std.specs.Prelude.{ℕ, ◌≡◌, ◌≢◌, ◌≤◌, ◌<◌, ◌+◌, ◌^◌, ◌⊎◌, ◌++◌, IsTrue, List, [], length, Option, Some, slice_get}
 use Rattle.io_base.specs.Causes.{Rose}
 use Rattle.io_base.specs.Shelf.{ShelfState, IsTold}
@@ -46,7 +46,7 @@ Writes before after text = after.bytes ≡ before.bytes ++ text
 
 -- ---- images
 
--- a legal placement is saved: its map, its layout, and an image for each of the microword's parts
+-- a legal placement is saved: its map, its layout, and each PROM image of its words
 pub record SavesPlacement (out : List ℕ) (g : Graph) (place : List Position) (words : List ℕ) (files : List ℕ → Option (List ℕ)) : Type 0 where
   pub legal : IsLegal g place
   pub map_bytes : List ℕ
@@ -130,8 +130,8 @@ SavesRefutation (Some (make src script out clocks conflicts)) old new before aft
     IsTold old → IsTrue before.tells → s ≡ status.Refuted → IsRefuted src script out conflicts old new before after
 SavesRefutation _ old new before after s = Unit {0}
 
--- Over the files as `make` leaves them, where the source has another name than the saved refutation, `check` of the
--- two is done, unless memory is refused or a fault is counted.
+-- Over the files as `make` leaves them, where the source has another name than the saved refutation, `check` of the two
+-- ends with status 0, `Done`, unless memory is refused or a fault is counted.
 abbrev pub ChecksOut : Option Command → ShelfState → ShelfState → SinkState → SinkState → Status → Type 0
 ChecksOut (Some (make src script out clocks conflicts)) old new before after s =
     (start end : ShelfState) (t : Status) (text : List ℕ) → IsTold old → IsTrue before.tells → s ≡ status.Refuted →

@@ -11,31 +11,45 @@ use crate::numbers::number_after;
 pub enum Request<'a> {
     /// `map SRC`
     Map {
+        /// The name of the source.
         src: &'a str,
     },
     /// `flow SRC SCRIPT clocks=N`
     Flow {
+        /// The name of the source.
         src: &'a str,
+        /// The name of the script.
         script: &'a str,
+        /// How many clocks are followed.
         clocks: u32,
     },
     /// `run OUT SCRIPT clocks=N`
     Run {
+        /// The name under which images are saved.
         out: &'a str,
+        /// The name of the script.
         script: &'a str,
+        /// How many clocks are run.
         clocks: u32,
     },
     /// `make SRC SCRIPT OUT clocks=N conflicts=B`
     Make {
+        /// The name of the source.
         src: &'a str,
+        /// The name of the script.
         script: &'a str,
+        /// The name under which the answer is saved.
         out: &'a str,
+        /// How many clocks are run.
         clocks: u32,
+        /// How many conflicts the search may learn from.
         conflicts: u32,
     },
     /// `check SRC REF`
     Check {
+        /// The name of the source.
         src: &'a str,
+        /// The name of the refutation.
         refutation: &'a str,
     },
     /// The words are no command.

@@ -14,7 +14,8 @@ use io_base::{Shelf, Sink};
 use replies::Status;
 use std::alloc::Global;
 
-/// Answers the words of the command line: reads files from the shelf and writes the answer's text to `out`.
+/// Answers the words of the command line, of which the first is the command and not the program's name: reads files
+/// from the shelf and writes the answer's text to `out`.
 ///
 /// Where the sink fails, the status is that of a sink fault and a prefix of an answer's text was written. Want of
 /// memory may be answered at any command.
@@ -22,7 +23,8 @@ pub fn top<S: Shelf, K: Sink>(alloc: Global, words: &[String], shelf: &mut S, ou
     ensures ends { Ends (Answer (command_of (map string_bytes words.now)) (S.state shelf.old) (S.state shelf.new))
         (K.state out.old) (K.state out.new) result }
 
-    // What `make` promises over a shelf that tells its files and a sink that tells its bytes.
+    // What `make` promises over a shelf that tells its files and, but for `read_back`, is honest, and over a sink that
+    // tells its bytes.
     ensures images { SavesImages (command_of (map string_bytes words.now))
         (S.state shelf.old) (S.state shelf.new) (K.state out.old) (K.state out.new) result }
     ensures read_back { ReadsBack (command_of (map string_bytes words.now))

@@ -18,8 +18,13 @@ pub enum MapKind {
 /// Why there is no pinned placement.
 #[derive(Clone, Copy, Debug, PartialEq, Eq)]
 pub enum MapFault {
-    /// The line of the first instruction at fault, from 1, and what is wrong.
-    At { line: u32, kind: MapKind },
+    /// An instruction is refused.
+    At {
+        /// The line of the first instruction at fault, from 1.
+        line: u32,
+        /// What is wrong at it.
+        kind: MapKind,
+    },
     /// Memory was refused.
     OutOfMemory,
 }

@@ -1,4 +1,4 @@
-//! What a conflict teaches.
+//! The line that is learned from a conflict, and the return to the level that it names.
 
 ghost use Rattle.std.specs.Prelude.{◌≡◌, ◌≢◌, ◌<◌, ◌^◌, ◌-◌, ◌++◌, [], length, flat_map, IfOk, OnOk};
 ghost use Rattle.clause_base.specs.Refutation.{Derived};

@@ -1,6 +1,6 @@
 -- Why a refutation line is refused by its text, in the order of the answers. This project's own.
 
-use Rattle.std.specs.Prelude.{ℕ, ℤ, ◌<◌, ◌==◌, ◌&&◌, not, Bool, true, false, if◌then◌else◌, nat_lt, nat_le, List, [], ◌∷◌, length, Option, Some, None}
+use Rattle.std.specs.Prelude.{ℕ, ℤ, ◌==◌, ◌&&◌, not, Bool, true, false, if◌then◌else◌, nat_lt, nat_le, List, [], ◌∷◌, length, Option, Some, None}
 use Rattle.std.specs.List.{list_all, list_any}
 use Rattle.clause_base.specs.Lit.{var_of}
 use Rattle.clause_base.specs.declared.line.Line.{Line}
@@ -21,7 +21,7 @@ are_literals vars (z ∷ zs) = is_variable vars (var_of z) && not (list_any (λ 
 abbrev pub are_hints : ℕ → List ℕ → Bool
 are_hints number hints = nat_lt 0 (length hints) && list_all (λ hint. nat_lt hint number) hints
 
--- a line that should have this number, where an earlier line had no literal or none had
+-- why a line is refused that should have this number; `over` says whether an earlier line had no literal
 abbrev pub written_fault : ℕ → ℕ → Bool → Option Written → Option Why
 written_fault number vars over None = Some why.Text
 written_fault number vars true (Some written) = Some why.After

@@ -32,7 +32,8 @@ size_of value = value.size
 abbrev pub has_zero : List Signed → Bool
 has_zero values = nat_lt (position_or_len is_zero values) (length values)
 
--- The first 0 behind the line's number ends the literals, the next 0 ends the hints, and nothing stands behind it.
+-- the line of this number with these values behind it: literals, 0, hints without signs, 0, and nothing more; none
+-- where they are not so
 abbrev pub line_in : ℕ → List Signed → Option Written
 line_in number values =
     if has_zero values && has_zero (after_first is_zero values)
@@ -52,7 +53,7 @@ abbrev pub if_all : Bool → List Signed → Option (List Signed)
 if_all true values = Some values
 if_all false values = None
 
--- a minus sign may stand before a literal alone
+-- the line that these values write, of which the first is its number and has no sign
 abbrev pub written_in : Option (List Signed) → Option Written
 written_in None = None
 written_in (Some []) = None

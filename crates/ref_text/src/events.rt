@@ -7,9 +7,9 @@ use crate::Why;
 pub enum Event {
     /// The piece is used up inside a line.
     More,
-    /// A line was read.
+    /// A line was read; `LineReader::clause` and `hints` give it until the next call of `feed`.
     Line,
-    /// The line of that place, counted from 1, is refused.
+    /// The line of that place, counted from 1, is refused by its text: never as `NotUnit` or `NotFalse`.
     Bad(u64, Why),
     /// The text ended, and no line was begun.
     End,

@@ -23,8 +23,8 @@ abbrev pub or_hints : Clauses → Line → Option Why → Option Why
 or_hints list line (Some why) = Some why
 or_hints list line None = judged list.clauses (map neg_ℤ line.clause) line.hints
 
--- why the next line is refused, where the list has the clauses of the lines before it too, and one of these lines
--- has no literal or none has none
+-- why the next line is refused, where the list has the clauses of the lines before it too; `over` says whether one of
+-- these lines has no literal
 abbrev pub line_fault : Clauses → Bool → List ℕ → Option Why
 line_fault list over line = or_hints list (line_of (form line)) (text_fault (length list.clauses + 1) list.vars over line)
 

@@ -29,12 +29,12 @@ pub record IsTaken (old new : ShelfState) (name : List ℕ) (limit : ℕ) (bytes
   pub told : IsTrue old.tells → IsFront (old.file name) limit bytes longer
   pub cause : HasTaken limit old new bytes longer
 
--- of a text that goes on behind the limit, a line that ends before it may be refused
+-- the refusal of the next line, where there is a reason
 abbrev pub refused_of : ℕ → Option Why → Option Checked
 refused_of count None = None
 refused_of count (Some why) = Some (checked.Rejected (count + 1) why)
 
--- the same, of how far the lines go
+-- the refusal that ended the whole lines, where one did; what is begun behind them is not judged
 abbrev pub refusal : Progress → Option Checked
 refusal p = refused_of p.count p.bad
 

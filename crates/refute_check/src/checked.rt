@@ -1,4 +1,4 @@
-//! The answer for a refutation's text.
+//! The checker's answer for a refutation's text, and why a file gets none.
 
 use ref_text::Why;
 

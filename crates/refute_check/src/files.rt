@@ -27,8 +27,8 @@ const LIMIT: u64 = 1 << 43;
 
 /// Checks the file `name` as a refutation of a program's placement clauses.
 ///
-/// At most one byte more than 2^43 is taken. A longer file is refused, unless a line that ends within the first 2^43
-/// bytes is.
+/// At most one byte more than 2^43 is taken. Of a longer file `TooLong` is the answer, unless a line that ends within
+/// the first 2^43 bytes is refused: then that line is.
 pub fn check_ref<S: Shelf>(
     alloc: Global,
     program: &Program,

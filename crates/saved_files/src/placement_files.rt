@@ -28,7 +28,7 @@ fn add_images(
 }
 
 /// The files of a placement: `OUT.map`, `OUT.lay`, and an image for each of these texts, `OUT.p0.bpnf`
-/// and so on. At most 96 images, since a microword has at most 96 bits. The names are such as `save_all`
+/// and so on. At most 96 images, which is more than any declaration has (`prom_count` gives at most 24). The names are such as `save_all`
 /// asks for.
 pub fn placed_files(
     alloc: Global,
