@@ -1,9 +1,11 @@
 //! BPNF, the text form of a PROM's contents, in both directions. Layer: artefacts.
 //!
-//! `print` gives the one canonical text of an image. `read` takes exactly the texts that are as many
-//! frames as an image has words, with comments before, between and after them, and reports the
-//! first fault of any other text. Each text has just one reading, an image's words or a fault, and
-//! that of a printed text is the image that it was printed from.
+//! `print` gives the one canonical text of an image. `read` takes exactly the texts that are as many frames as an
+//! image has words, with comments before, between and after them, and reports the first fault of any other text. Each
+//! text has just one reading, an image's words or a fault, and that of a printed text is the image that it was
+//! printed from.
+//!
+//! Contracts: `read`, `print`, `each_text_has_one_reading`.
 #![tactic(auto)]
 
 mod bytes;

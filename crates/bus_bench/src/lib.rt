@@ -1,8 +1,14 @@
-//! The bench: the 3001 and its array run on the microwords of 512 cells, with a memory, for any words. No label occurs.
-//! Layer: artefacts.
+//! The bench: the 3001 and its array run on the microwords of 512 cells, with a memory, for any words. No label
+//! occurs. Layer: artefacts.
 //!
-//! `run` writes the trace of any words. The law says that words which hold a placed program follow its symbolic flow,
-//! clock by clock, for every script: `chip_matches_flow`.
+//! A run of any words writes exactly the trace of the chips, but where a word orders the right shift with K bits
+//! other than 0: the first such cell is told.
+//!
+//! The law: for every program, legal placement, words that hold the program there with any jump that legality admits,
+//! script for the array and number of clocks, the trace of the chips is that of the symbolic flow, with a cell for a
+//! label.
+//!
+//! Contracts: `run`, `bad_shift`, `chip_matches_flow`.
 #![tactic(auto)]
 
 mod bench;

@@ -68,12 +68,12 @@ memory_word_line slices memory address value =
     else if is_some (value_at memory address) then Err kinds.Twice
     else Ok (MemoryWord address value)
 
--- mem ADDRESS VALUE
+-- the line `mem ADDRESS VALUE`
 abbrev pub memory_line : ℕ → List (ℕ × ℕ) → List Word → Result Said ScriptKind
 memory_line slices memory (Number address ∷ Number value ∷ []) = memory_word_line slices memory address value
 memory_line slices memory _ = Err kinds.Shape
 
--- clk KEY = NUMBER ..: the buses of the next clock
+-- the line `clk` with any number of `KEY = NUMBER`: the buses of the next clock
 abbrev pub clock_line : ℕ → List Word → Result Said ScriptKind
 clock_line slices words = clock_buses slices words >>= λ buses. Ok (Clock buses)
 

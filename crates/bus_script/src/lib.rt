@@ -1,9 +1,11 @@
-//! Bus scripts and trace lines: what the outside puts on the buses of an array in each clock, and
-//! what one clock looks like in a trace. Layer: language.
+//! Bus scripts and trace lines: what the outside puts on the buses of an array in each clock, and what one clock
+//! looks like in a trace. Layer: language.
 //!
-//! A script line is judged against all earlier ones. `read_script` gives just what a text says, or
-//! its first refused line. `at` and `initial` answer for every clock and every address of the
-//! memory; `view_line` writes just the line of a clock. Both formats are this project's own choice.
+//! A script line is judged against all earlier ones. `read_script` gives just the memory words and the buses that a
+//! text names, or its first refused line with its cause. `at` and `initial` answer for every clock and every address
+//! of the memory; `view_line` writes exactly the line of a clock. Both formats are this project's own choice.
+//!
+//! Contracts: `read_script`, `at`, `initial`, `view_line`.
 #![tactic(auto)]
 
 mod buses;

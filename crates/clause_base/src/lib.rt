@@ -1,10 +1,13 @@
-//! Literals, clause lists, and the lines of a refutation: the words that the search, the refutation text
-//! and the checker share. `ClauseList` gives back just the clauses that were added, by their numbers from 1.
-//! Layer: decision.
+//! Literals, clause lists, and the lines of a refutation: the words that the search, the refutation text and the
+//! checker share. Layer: decision.
 //!
-//! A clause list is what a contract sees: a number of variables and a list of clauses. What it means that
-//! a line is derived, that lines are a refutation, and that a budget is spent is said in `specs/Refutation`
-//! and `specs/Spent` of clauses and lines alone, whatever a search or a checker keeps beside them.
+//! `ClauseList`, on one flat pool of literals, gives back just the clauses that were added, by their numbers from 1.
+//!
+//! A clause list is what a contract sees: a number of variables and a list of clauses. What a derived line, a
+//! refutation, a clash and a spent budget are is said in `specs/Refutation` and `specs/Spent` of clauses and lines
+//! alone, whatever a search or a checker keeps beside them, with worked examples as proved facts.
+//!
+//! Contracts: `ClauseList::add`, `ClauseList::get`.
 #![tactic(auto)]
 
 mod clash;

@@ -1,8 +1,12 @@
-//! The placement of a program as clauses, both ways: each legal placement makes every clause true, and
-//! whatever makes every clause true is a legal placement. Layer: decision.
+//! The placement of a program as clauses, both ways: each legal placement makes every clause true, and whatever makes
+//! every clause true is a legal placement. Layer: decision.
 //!
-//! `encode` makes the whole list, `clause_at` one clause of it by its number, and `place_of` reads the
-//! placement off truth values. All are for programs of up to 512 instructions.
+//! `encode` builds the list of a program's clauses exactly, in its order; `clause_at` gives each of its clauses by
+//! its number, without the list; `var_count` and `clause_count` are the counts of variables and clauses. `place_of`
+//! reads off truth values the legal placement that they stand for, where they make every clause true. All are for
+//! programs of up to 512 instructions.
+//!
+//! Contracts: `encode`, `clause_at`, `var_count`, `clause_count`, `place_of`.
 #![tactic(auto)]
 
 mod cells;

@@ -1,9 +1,11 @@
 //! The 3002 Central Processing Element: a slice two bits wide, its function codes and its one clock. Layer: chips.
 //!
-//! `Slice::step` is proved to be the array step on whole words at one slice, for every function code and every
-//! register, with both outputs; in the right shift for a K bus of 0 alone. That bound, CO of functions 6 and 7, the 0 on
-//! a disabled output and the start state are this project's own choice; all else that a slice does is Intel's data
-//! sheet. No call takes memory.
+//! `Slice::step` is proved to be the array step, the definition on whole words that `docs/machine.md` tells, at one
+//! slice, for every function code and every register, with carry, shift link and both outputs; in the right shift for
+//! a K bus of 0 alone. That bound, CO of functions 6 and 7, the 0 on a disabled output and the start state are this
+//! project's own choice; all else that a slice does is Intel's data sheet. No call takes memory.
+//!
+//! Contracts: `Slice::step`, `Fn7::of`.
 #![tactic(auto)]
 
 mod function_code;

@@ -8,27 +8,27 @@ use Rattle.field_decl.specs.declared.directive.Directive.TheVariants.{Slices, KB
 use Rattle.field_decl.specs.declared.fault.AsmKind.{AsmKind}
 use Rattle.field_decl.specs.declared.fault.AsmKind.TheVariants as kinds
 
--- slices NUMBER
+-- the line `slices NUMBER`
 abbrev pub slices_form : List Word → Result Directive AsmKind
 slices_form (Number slices ∷ []) = Ok (Slices slices)
 slices_form _ = Err kinds.Shape
 
--- kbus NUMBER
+-- the line `kbus NUMBER`
 abbrev pub kbus_form : List Word → Result Directive AsmKind
 kbus_form (Number kbus ∷ []) = Ok (KBus kbus)
 kbus_form _ = Err kinds.Shape
 
--- field NAME WIDTH DEFAULT
+-- the line `field NAME WIDTH DEFAULT`
 abbrev pub field_form : List Word → Result Directive AsmKind
 field_form (Name name ∷ Number width ∷ Number default ∷ []) = Ok (Field name width default)
 field_form _ = Err kinds.Shape
 
--- prom WORDS BITS
+-- the line `prom WORDS BITS`
 abbrev pub prom_form : List Word → Result Directive AsmKind
 prom_form (Number words ∷ Number bits ∷ []) = Ok (Prom words bits)
 prom_form _ = Err kinds.Shape
 
--- write NAME
+-- the line `write NAME`
 abbrev pub write_form : List Word → Result Directive AsmKind
 write_form (Name name ∷ []) = Ok (Write name)
 write_form _ = Err kinds.Shape

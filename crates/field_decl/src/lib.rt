@@ -1,10 +1,12 @@
 //! Declarations: the chips and the microword that a program is for, and the layout file. Layer: language.
 //!
-//! A directive is judged against all earlier ones. `read_decl` gives just what a layout text
-//! declares, or its first refused line; `print_decl` writes a text that reads as the same
-//! declaration. A `Decl` fits together by its type. `spread` and `gather` turn K bits into a mask and
-//! back; `line_words` gives the words of a line. `AsmKind` has the refusals of whole sources too, since
-//! a layout's lines are a source's. The language is this project's own choice.
+//! A directive is judged against all earlier ones. `read_decl` gives just what a layout text declares, or its first
+//! refused line with its cause; `print_decl` writes a text that reads as the same declaration. A `Decl` fits together
+//! by its type. By `spread` and `gather` K bits and the mask that they drive give each other back; `line_words` gives
+//! the words of a line. `AsmKind` has the refusals of whole sources too, since a layout's lines are a source's. The
+//! language is this project's own choice.
+//!
+//! Contracts: `read_decl`, `print_decl`, `spread`, `gather`.
 #![tactic(auto)]
 
 mod decl;

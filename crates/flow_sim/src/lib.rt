@@ -1,9 +1,12 @@
 //! The symbolic flow: a program run by its labels, with registers, flags and memory as whole words. Layer: meaning.
 //!
-//! `flow_step` is one clock and `flow_run` writes the trace of many; the flow knows no cell. What flow and bench share
-//! stands here too: the registers, flags and memory (`Machine`), what a word orders (`Order`), what the array answers
-//! (`array_answer`), and why a run was given up (`RunFault`, which names a cell for the bench alone). The memory of a
-//! run is taken before its first byte is written.
+//! `flow_step` is one clock of the flow, on whole words and labels, as it is defined, and `flow_run` writes exactly
+//! the trace; the flow knows no cell. What flow and bench share stands here too: the registers, flags and memory
+//! (`Machine`), what a word orders (`Order`), what the array answers (`array_answer`), and why a run was given up
+//! (`RunFault`, which names a cell for the bench alone). The memory of a run is taken before its first byte is
+//! written.
+//!
+//! Contracts: `flow_step`, `flow_run`.
 #![tactic(auto)]
 
 mod answering;

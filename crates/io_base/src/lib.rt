@@ -1,11 +1,15 @@
-//! The outside as the program sees it: a shelf of named files and a sink of bytes, each with a count
-//! of its faults. The promise to the layers above: a call answers `Failed` only where that count rose,
-//! and a shelf's last failed name is then the name of that call; `load` gives the whole file that a
-//! shelf tells; `put_all` adds the whole piece to a sink. Layer: outside.
+//! The outside as the program sees it: a shelf of named files and a sink of bytes, each with a count of its faults.
+//! Layer: outside.
 //!
-//! A shelf *tells its files* where contracts see their bytes, and is *honest* where `create` and `append`
-//! do to a file what they say. `MemShelf`, in memory, does both. Of `FileShelf`, the system's files,
-//! neither is assumed.
+//! Shelf and sink say exactly what their calls do. A call answers `Failed` only where its object's count of faults
+//! rose in that call, and a shelf's last failed name is then the name of that call. A loaded file is the whole file
+//! of a shelf that tells its files, and just its bytes were taken; a file is refused as absent or too long exactly
+//! where a read said so or more bytes than the limit were taken. `put_all` adds the whole piece to a sink.
+//!
+//! A shelf *tells its files* where contracts see their bytes, and is *honest* where `create` and `append` do to a
+//! file what they say. `MemShelf`, in memory, does both. Of `FileShelf`, the system's files, neither is assumed.
+//!
+//! Contracts: `load`, `put_all`, the traits `Shelf` and `Sink`.
 #![tactic(auto)]
 
 mod call_plan;

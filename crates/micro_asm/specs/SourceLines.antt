@@ -59,7 +59,7 @@ abbrev pub target_of : Word → Option (List ℕ)
 target_of (words.Name label) = Some label
 target_of _ = None
 
--- | FLOW TARGETS, after an operation and settings
+-- `|` FLOW TARGETS, behind an operation and its settings
 abbrev pub flow_form : List ℕ → Operation → List Setting → List Word → Result SourceLine AsmKind
 flow_form label operation settings (words.Bar ∷ words.Name flow ∷ targets) =
     if list_all is_target targets then Ok (Instruct (record { label = label; operation = operation; settings = settings; flow = flow; targets = map target_of targets }))
@@ -77,17 +77,17 @@ behind_operation label (Some read) = flow_form label read.0 (settings_form read.
 abbrev pub instruction_form : List ℕ → List Word → Result SourceLine AsmKind
 instruction_form label rest = behind_operation label (operation_form rest)
 
--- rows NUMBER
+-- the line `rows NUMBER`
 abbrev pub rows_form : List Word → Result SourceLine AsmKind
 rows_form (words.Number rows ∷ []) = Ok (Rows rows)
 rows_form _ = Err kinds.Shape
 
--- start LABEL
+-- the line `start LABEL`
 abbrev pub start_form : List Word → Result SourceLine AsmKind
 start_form (words.Name label ∷ []) = Ok (Start label)
 start_form _ = Err kinds.Shape
 
--- pin LABEL ROW COLUMN
+-- the line `pin LABEL ROW COLUMN`
 abbrev pub pin_form : List Word → Result SourceLine AsmKind
 pin_form (words.Name label ∷ words.Number row ∷ words.Number col ∷ []) = Ok (Pin label row col)
 pin_form _ = Err kinds.Shape

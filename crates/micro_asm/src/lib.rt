@@ -1,8 +1,10 @@
 //! The assembler: a source with symbolic flow read as a program, or refused. Layer: language.
 //!
-//! `assemble` gives just the program that a source means, or just its first refused line with the
-//! reason. Each line is judged against all earlier lines; labels that no instruction has are told at
-//! the end. The language is this project's own choice.
+//! `assemble` gives just the program that a source means, for the whole language, or just its first refused line with
+//! its cause. Each line is judged against all earlier lines; labels that no instruction has are told at the end. The
+//! language is this project's own choice.
+//!
+//! Contracts: `assemble`.
 #![tactic(auto)]
 
 mod accepted_lines;

@@ -131,7 +131,7 @@ SavesRefutation (Some (make src script out clocks conflicts)) old new before aft
 SavesRefutation _ old new before after s = Unit {0}
 
 -- Over the files as `make` leaves them, where the source has another name than the saved refutation, `check` of the two
--- ends with status 0, `Done`, unless memory is refused or a fault is counted.
+-- ends with status 0, `Done`, unless memory is refused or a fault is counted
 abbrev pub ChecksOut : Option Command → ShelfState → ShelfState → SinkState → SinkState → Status → Type 0
 ChecksOut (Some (make src script out clocks conflicts)) old new before after s =
     (start end : ShelfState) (t : Status) (text : List ℕ) → IsTold old → IsTrue before.tells → s ≡ status.Refuted →

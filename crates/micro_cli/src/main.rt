@@ -2,6 +2,8 @@
 //!
 //! `top_call::top` is the whole program over a shelf of files and a sink of bytes, and its contract is what the
 //! program promises; `main` hands it the words, the files of the system and standard output.
+//!
+//! Contracts: `top`.
 #![tactic(auto)]
 
 mod answer_files;

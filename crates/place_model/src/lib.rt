@@ -1,8 +1,11 @@
-//! Placements: which cell each instruction stands in, when that is legal, which jump each
-//! instruction then becomes, and the map text that shows both. Layer: meaning.
+//! Placements: which cell each instruction stands in, when that is legal, which jump each instruction then becomes,
+//! and the map text that shows both. Layer: meaning.
 //!
-//! `legal` is the definition of a legal placement, exactly. `pinned` takes the placement that the
-//! source's pins give, or tells the first reason why there is none.
+//! `legal` is the definition of a legal placement, exactly, for all ten flow statements and the trap. `pinned` gives
+//! the placement of the pins where it is legal, and else exactly the first reason why it is not. The map text is
+//! exact.
+//!
+//! Contracts: `legal`, `pinned`, `jump_of`, `map_text`.
 #![tactic(auto)]
 
 mod faults;

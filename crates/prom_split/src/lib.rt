@@ -1,10 +1,12 @@
-//! Microwords and PROM images: what a program writes into each cell once it is placed, and how the
-//! words lie in PROMs that stand side by side. Layer: artefacts.
+//! Microwords and PROM images: what a program writes into each cell once it is placed, and how the words lie in PROMs
+//! that stand side by side. Layer: artefacts.
 //!
-//! `word_of` and `words_of` give the words of a legal placement, by the sum of their parts; `parts`
-//! takes any word apart. `split` writes the words into images bit by bit and `join` reads them back:
-//! what is joined from the images of some words is these words. Where each part and each bit stands
-//! is this project's own choice.
+//! `word_of` and `words_of` give the words of a legal placement, that of each cell, by the sum of their parts;
+//! `parts` takes any word apart. `split` writes the words into images bit by bit and `join` reads them back: what is
+//! joined from the images of some words is these words. Where each part and each bit stands is this project's own
+//! choice.
+//!
+//! Contracts: `word_of`, `words_of`, `parts`, `split`, `join`, `each_bit_is_saved`, `joined_images_are_the_words`.
 #![tactic(auto)]
 
 mod field_bits;

@@ -1,8 +1,12 @@
 //! The text of a refutation: printing its lines and a clash, and reading lines back in pieces. Layer: decision.
 //!
-//! Printed texts are exact. A line's form is said of its whole bytes: its number, literals, 0, hints, 0. A reader that
-//! is fed a text tells each line, or the first that its text alone refuses, wherever the pieces are cut. Whether
-//! the hints of a line lead to a conflict is not asked here: the checker does, line by line.
+//! The text of a line and of a clash is exact. A line's form is said of its whole bytes: its number, literals, 0,
+//! hints, 0. A reader that is fed a text in pieces gives its lines, or the first that its text alone refuses, with
+//! its cause, wherever the pieces are cut. Whether the hints of a line lead to a conflict is not asked here: the
+//! checker does, line by line.
+//!
+//! Contracts: `print_line`, `print_clash`, `LineReader::feed`, `finish`, `cuts_make_no_difference`,
+//! `whole_lines_are_told`, `printed_lines_are_read`.
 #![tactic(auto)]
 
 mod events;

@@ -1,8 +1,11 @@
 //! Checks a refutation: each line of its text is derived from the clauses and the lines before it, or the first that
 //! is not is told. Layer: decision.
 //!
-//! The answer for a text is exactly that of `check` in `specs/Check`. A list of clauses that a text refutes
-//! is made true by no truth values; so a program whose clauses are refuted has no legal placement.
+//! The answer for a file is exactly that of the definition, `check` in `specs/Check`, which judges each line against
+//! the clauses and all lines before it. A list of clauses that a text refutes is made true by no truth values; so
+//! where the answer is that a text refutes a program's clauses, no placement is legal.
+//!
+//! Contracts: `check_ref`, `check_bytes`, `refuting_text_is_a_refutation`.
 #![tactic(auto)]
 
 mod checked;

@@ -1,8 +1,11 @@
 //! Replies: how the program ends, the texts it ends with, and the steps that all commands share. Layer: answers.
 //!
-//! A step loads a file, and reads it as a source or as a script. It gives what was read, or it stops
-//! the command with a reply, a status and its text. `say`, `say_no_memory`, `say_stop` and `say_end` write a text and
-//! end with its status. Which reply comes for which file is this project's own choice, and each step's contract.
+//! By a step a file is loaded, a source assembled or a script read, or the command stops with exactly the text that
+//! says why not: a reply, which is a status with its text. `say`, `say_no_memory`, `say_stop` and `say_end` write a
+//! text and end with its status. Which reply comes for which file is this project's own choice, and each step's
+//! contract.
+//!
+//! Contracts: `load_file`, `load_source`, `load_script`, `say_end`.
 #![tactic(auto)]
 
 mod endings;

@@ -1,10 +1,12 @@
 //! Saving texts on a shelf, in order, each file by one `create` and then appends. Layer: artefacts.
 //!
-//! The promise to the layers above: where no call fails, each file holds just its bytes and all others
-//! stay; after a fault the files before it stand whole, the file is as it was or holds a prefix of its
-//! bytes, and all others stay. What is said of a file's bytes holds over a shelf that tells its files and
-//! is honest. No memory is taken while files are saved. `save_all` and `save_file` use one append for a file;
-//! `begin_file` and `grow_file` also serve a file that is written piece by piece, which the program does not do.
+//! Where no call fails, each file holds just its bytes and all others stay; after a fault the files before it stand
+//! whole, the file is as it was or holds a prefix of its bytes, and all others stay. What is said of a file's bytes
+//! holds over a shelf that tells its files and is honest. No memory is taken while files are saved. `save_all` and
+//! `save_file` use one append for a file; `begin_file` and `grow_file` also serve a file that is written piece by
+//! piece, which the program does not do.
+//!
+//! Contracts: `save_all`, `save_file`.
 #![tactic(auto)]
 
 mod laws;
