@@ -4,25 +4,29 @@ use Rattle.io_base.specs.Shelf.{ShelfState, GoesOn, CountsNoRead}
 use Rattle.mcu_jumps.specs.Position.{Position}
 use Rattle.flow_graph.specs.Graph.{Graph}
 use Rattle.saved_files.specs.SavedFile.{SavedFile}
-use Rattle.saved_files.specs.Saving.{IsSaved, FailedAt}
+use Rattle.saved_files.specs.Saving.{IsSaved, FailedAt, TakesOneEach, TakesOneUpTo}
 use Rattle.saved_files.specs.Unsaved.{cannot_save}
 use Rattle.replies.specs.Texts.{no_memory}
 use Rattle.replies.specs.declared.status.Status.{Status}
 use Rattle.replies.specs.declared.status.Status.TheVariants as status
 use Rattle.bench_answers.specs.PlacedFiles.{PlacesFiles}
-use Rattle.bench_answers.specs.ReadingBack.{BackReply, Wants}
+use Rattle.bench_answers.specs.ReadingBack.{BackReply, MayRun, Wants}
 
--- a file was not saved, and is told
+-- a file was not saved, and is told; no call was made after the one that failed, and no read
 pub record CannotSave (files : List SavedFile) (old new : ShelfState) (s : Status) (text : List ℕ) : Type 0 where
   pub place : ℕ
   pub failed : FailedAt old new files place
+  pub up_to : TakesOneUpTo old new place
+  pub no_read : CountsNoRead old new
   pub status_is : s ≡ status.ShelfFault
   pub text_is : text ≡ cannot_save new.last_failed
 
--- all files were saved, without a read, and up to a later state no file changed
+-- all files were saved, without a fault or a read, each by one create and one append, and up to a later state no file
+-- changed
 pub record AreSaved (files : List SavedFile) (old new : ShelfState) : Type 0 where
   pub after : ShelfState
   pub saved : IsSaved old after files
+  pub each_once : TakesOneEach old after files
   pub no_read : CountsNoRead old after
   pub goes_on : GoesOn old after
   pub same : new.file ≡ after.file
@@ -33,22 +37,22 @@ pub record SavesAndReplies (out script bytes : List ℕ) (clocks : ℕ) (files :
   pub back : BackReply out script bytes clocks all.after new s text
 
 -- all files were saved, and then memory was refused
-pub record WantsSaved (files : List SavedFile) (old new : ShelfState) (s : Status) (text : List ℕ) : Type 0 where
+pub record WantsSaved (out bytes : List ℕ) (files : List SavedFile) (old new : ShelfState) (s : Status) (text : List ℕ) : Type 0 where
   pub all : AreSaved files old new
-  pub wants : Wants s text
+  pub wants : Wants (MayRun out bytes all.after new) s text
 
--- memory was refused before the first file was begun, and no file changed
+-- memory was refused before the first file was begun, and the shelf is as it was
 pub record WantsUnsaved (old new : ShelfState) (s : Status) (text : List ℕ) : Type 0 where
   pub status_is : s ≡ status.NoMemory
   pub text_is : text ≡ no_memory
-  pub same : new.file ≡ old.file
+  pub same : new ≡ old
 
 -- what becomes of these files, once the first is begun
 abbrev pub FilesAnswer : List ℕ → List ℕ → List ℕ → ℕ → List SavedFile → ShelfState → ShelfState → Status → List ℕ → Type 0
 FilesAnswer out script bytes clocks files old new s text =
     CannotSave files old new s text
     ⊎ SavesAndReplies out script bytes clocks files old new s text
-    ⊎ WantsSaved files old new s text
+    ⊎ WantsSaved out bytes files old new s text
 
 -- the files of the placement were made, and became this
 pub record IsPlaced (out script bytes : List ℕ) (clocks : ℕ) (g : Graph) (place : List Position) (old new : ShelfState) (s : Status) (text : List ℕ) : Type 0 where

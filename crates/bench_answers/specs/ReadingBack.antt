@@ -39,14 +39,24 @@ BackReply out script bytes clocks old new s text =
     WordsReply out old new s text
     ⊎ ((decl : Declaration) × (words : List ℕ) × HasWords out old new decl words × WordsBack out script bytes clocks decl words s text)
 
--- memory was refused, also after the line `placed`
-pub record Wants (s : Status) (text : List ℕ) : Type 0 where
-  pub status_is : s ≡ status.NoMemory
-  pub text_is : (text ≡ no_memory) ⊎ (text ≡ placed_line ++ no_memory)
+-- these words were read back, the script's bytes were read for their declaration, and no word orders the right shift
+-- with K bits other than 0
+pub record MayRun (out bytes : List ℕ) (old new : ShelfState) : Type 0 where
+  pub decl : Declaration
+  pub words : List ℕ
+  pub said : BusScript
+  pub had : HasWords out old new decl words
+  pub meant : script_of decl.slices bytes ≡ Ok said
+  pub no_bad_shift : HasNoBadShift words decl
 
--- a reply of this kind, or that memory was refused
-abbrev pub OrWants : (Status → List ℕ → Type 0) → Status → List ℕ → Type 0
-OrWants replies s text = replies s text ⊎ Wants s text
+-- memory was refused, after the line `placed` only where this holds
+pub record Wants (placed : Type 0) (s : Status) (text : List ℕ) : Type 0 where
+  pub status_is : s ≡ status.NoMemory
+  pub text_is : (text ≡ no_memory) ⊎ (placed × (text ≡ placed_line ++ no_memory))
+
+-- a reply of this kind, or that memory was refused, after the line `placed` only where this holds
+abbrev pub OrWants : Type 0 → (Status → List ℕ → Type 0) → Status → List ℕ → Type 0
+OrWants placed replies s text = replies s text ⊎ Wants placed s text
 
 -- a read failed, and its file is told
 pub record CannotReadBack (old new : ShelfState) (s : Status) (text : List ℕ) : Type 0 where

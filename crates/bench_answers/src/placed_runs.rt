@@ -12,7 +12,7 @@ ghost use Rattle.saved_files.specs.Unsaved.{cannot_save};
 ghost use Rattle.saved_files.specs.Saving.{AreApart, AreShort, KeepsAllBut};
 ghost use Rattle.replies.specs.Ending.{Ends, Says};
 ghost use Rattle.bench_answers.specs.PlacedFiles.{KeepsOtherFiles};
-ghost use Rattle.bench_answers.specs.ReadingBack.{BackReply, IsPlacedRun, OrWants, ShiftOrRun};
+ghost use Rattle.bench_answers.specs.ReadingBack.{BackReply, IsPlacedRun, MayRun, OrWants, ShiftOrRun};
 ghost use Rattle.bench_answers.specs.Placed.{FilesAnswer, PlacedAnswer, UnlessUnsaved};
 
 use crate::file_texts::files_of;
@@ -49,7 +49,7 @@ fn write_placed<K: Sink>(
 ) -> Status
     requires fits { IsScriptFor saved.now.decl.slices script.now }
     requires no_bad_shift { HasNoBadShift saved.now.words (declaration_of saved.now.decl) }
-    ensures ends { Ends (OrWants (IsPlacedRun (declaration_of saved.now.decl) saved.now.words script.now clocks)) (K.state out.old) (K.state out.new) result }
+    ensures ends { Ends (OrWants (HasNoBadShift saved.now.words (declaration_of saved.now.decl)) (IsPlacedRun (declaration_of saved.now.decl) saved.now.words script.now clocks)) (K.state out.old) (K.state out.new) result }
     ensures sink_goes_on { SinkGoesOn (K.state out.old) (K.state out.new) }
 {
     match put_all(out, b"placed\n") {
@@ -68,7 +68,7 @@ fn run_back<K: Sink>(
     out: &mut K,
 ) -> Status
     requires { IsScriptFor saved.now.decl.slices script.now }
-    ensures ends { Ends (OrWants (ShiftOrRun name.now (declaration_of saved.now.decl) saved.now.words script.now clocks)) (K.state out.old) (K.state out.new) result }
+    ensures ends { Ends (OrWants (HasNoBadShift saved.now.words (declaration_of saved.now.decl)) (ShiftOrRun name.now (declaration_of saved.now.decl) saved.now.words script.now clocks)) (K.state out.old) (K.state out.new) result }
     ensures sink_goes_on { SinkGoesOn (K.state out.old) (K.state out.new) }
 {
     match bad_shift(&saved.words, &saved.decl) {
@@ -87,7 +87,7 @@ fn read_back<S: Shelf, K: Sink>(
 ) -> Status
     requires out_short { length asked.out.now ≤ 200 }
     requires small { length bytes.now < 2 ^ 32 }
-    ensures ends { Ends (OrWants (BackReply asked.entry.out.now asked.entry.script.now bytes.now asked.entry.clocks (S.state shelf.old) (S.state shelf.new)))
+    ensures ends { Ends (OrWants (MayRun asked.entry.out.now bytes.now (S.state shelf.old) (S.state shelf.new)) (BackReply asked.entry.out.now asked.entry.script.now bytes.now asked.entry.clocks (S.state shelf.old) (S.state shelf.new)))
         (K.state out.old) (K.state out.new) result }
     ensures same { (S.state shelf.new).file ≡ (S.state shelf.old).file }
     ensures goes_on { GoesOn (S.state shelf.old) (S.state shelf.new) }

@@ -1,5 +1,6 @@
 pub mod ScriptLaw
 pub mod SettingLists
+pub mod GivenSettings
 pub mod WordLimit
 pub mod TraceDigits
 pub mod ScriptFits

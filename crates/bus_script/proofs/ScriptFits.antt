@@ -14,6 +14,7 @@ use Rattle.micro_lex.specs.Lines.{lines}
 use Rattle.field_decl.specs.Results.{◌>>=◌}
 use Rattle.field_decl.specs.declared.word.Word.{Word}
 use Rattle.field_decl.specs.declared.word.Word.TheVariants as words
+use Rattle.bus_script.specs.declared.buses.Buses.{Buses}
 use Rattle.bus_script.specs.declared.fault.ScriptKind.{ScriptKind}
 use Rattle.bus_script.specs.declared.fault.ScriptKind.TheVariants as kinds
 use Rattle.bus_script.specs.declared.setting.Given.{Given}
@@ -22,9 +23,11 @@ use Rattle.bus_script.specs.Faults.{in_line}
 use Rattle.bus_script.specs.Script.{Said, Nothing, MemoryWord, Clock, BusScript, script_by, value_at, memory_line, keyword_line, words_said, line_said, lines_said, script_of, idle}
 use Rattle.bus_script.specs.ScriptFits.{AreBusesFor, IsMemoryWordFor, IsScriptFor}
 use Rattle.bus_script.specs.ScriptSteps.{with_line}
-use Rattle.bus_script.specs.Settings.{settings_of, nothing_given, fresh_value, with_setting, given_after, buses_from, clock_buses}
+use Rattle.bus_script.specs.Settings.{settings_of, clock_buses}
+use Rattle.bus_script.specs.SettingSteps.{nothing_given, fresh_value, with_setting, given_after, buses_from}
 use Rattle.bus_script.specs.Words.{words_of}
 use Rattle.bus_script.proofs.ScriptLaw.{script_push}
+use Rattle.bus_script.proofs.GivenSettings.{clock_by_steps}
 
 -- ---- readings that are refused or fit
 
@@ -101,8 +104,8 @@ buses_fit : (slices : ℕ) (words : List Word) → IfOk (clock_buses slices word
 buses_fit slices words =
     let read = settings_of words >>= given_after slices nothing_given in
     let given : IfOk read (IsGivenFor slices) = bind_fits (λ _. Unit {0}) (IsGivenFor slices) (settings_of words) (given_after slices nothing_given) (any_fits (settings_of words)) (λ settings _. given_fits slices nothing_given settings (record { m = tt; i = tt; px = tt; sx = tt })) in
-    bind_fits (IsGivenFor slices) (AreBusesFor slices) read (λ given. Ok (buses_from given)) given
-    (λ given h. record { m = h.m; i = or_zero_fits given.i (4 ^ slices) (some_words slices) h.i; px = or_zero_fits given.px 16 (omega arith) h.px; sx = or_zero_fits given.sx 16 (omega arith) h.sx })
+    subst (λ (buses : Result Buses ScriptKind). IfOk buses (AreBusesFor slices)) (sym (clock_by_steps slices words)) (bind_fits (IsGivenFor slices) (AreBusesFor slices) read (λ given. Ok (buses_from given)) given
+    (λ given h. record { m = h.m; i = or_zero_fits given.i (4 ^ slices) (some_words slices) h.i; px = or_zero_fits given.px 16 (omega arith) h.px; sx = or_zero_fits given.sx 16 (omega arith) h.sx }))
   where
     any_fits : {A E : Type 0} (read : Result A E) → IfOk read (λ _. Unit {0})
     any_fits (Ok x) = tt

@@ -3,8 +3,8 @@
 ghost use Rattle.std.specs.Prelude.{◌≡◌, ◌≤◌};
 ghost use Rattle.std.specs.Option.{MatchOption};
 ghost use Rattle.bus_script.specs.Faults.{Gives};
-ghost use Rattle.bus_script.specs.SettingSteps.{ended, IsFirstSetting};
-ghost use Rattle.bus_script.specs.Settings.{settings_of, nothing_given, given_after, clock_buses};
+ghost use Rattle.bus_script.specs.SettingSteps.{ended, IsFirstSetting, nothing_given, given_after};
+ghost use Rattle.bus_script.specs.Settings.{settings_of, clock_buses};
 
 use crate::buses::Buses;
 use crate::fault::{LineFault, ScriptKind};
@@ -52,7 +52,7 @@ fn settings(alloc: Global, words: &[Word]) -> Result<Vec<Setting>, LineFault>
 }
 
 // What the settings give, from the left.
-#[tactic(auto, unfolding(crate::specs::Settings::given_after))]
+#[tactic(auto, unfolding(crate::specs::SettingSteps::given_after))]
 fn given_by(slices: u8, settings: &[Setting]) -> Result<Given, ScriptKind>
     requires { slices ≤ 16 }
     ensures { result ≡ given_after slices nothing_given settings.now }

@@ -1,7 +1,7 @@
 //! Settings of a clock line, and what they give so far.
 
 ghost use Rattle.std.specs.Prelude.{◌≡◌, ◌≤◌, ◌^◌};
-ghost use Rattle.bus_script.specs.Settings.{fresh_value, nothing_given, with_setting, buses_from};
+ghost use Rattle.bus_script.specs.SettingSteps.{fresh_value, nothing_given, with_setting, buses_from};
 
 use crate::buses::Buses;
 use crate::fault::ScriptKind;
@@ -76,7 +76,7 @@ impl Given {
     }
 
     /// What is given with a setting more.
-    #[tactic(auto, unfolding(crate::specs::Settings::with_setting))]
+    #[tactic(auto, unfolding(crate::specs::SettingSteps::with_setting))]
     pub(crate) fn with(self, slices: u8, setting: &Setting) -> Result<Given, ScriptKind>
         requires { slices ≤ 16 }
         ensures { result ≡ with_setting slices self setting.now }

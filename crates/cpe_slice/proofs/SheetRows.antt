@@ -1,5 +1,5 @@
 -- The data sheet's table row by row: what the array step's result, test word and MAR are in each function and group.
--- Nothing rests on these; they show that the uniform definition says what the table says.
+-- So the uniform definition says what the table says.
 use Rattle.std.proofs.Common.{ℕ, ◌≡◌, ◌+◌, ◌-◌, ◌*◌, ◌/◌, ◌%◌, ◌^◌, bit_and, bit_or, bit_xor, refl}
 use Rattle.cpe_slice.specs.Registers.{Registers, get}
 use Rattle.cpe_slice.specs.FunctionCode.{function_of, group_of, register_of, is_shift}

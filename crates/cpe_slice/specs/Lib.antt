@@ -1,3 +1,4 @@
 pub mod Registers
 pub mod FunctionCode
 pub mod WordStep
+pub mod Table

@@ -3,7 +3,7 @@ use Rattle.std.proofs.Common.{ℕ, ◌≡◌, ◌≤◌, ◌+◌, ◌++◌, List
 use Rattle.std.proofs.Math.Seq.{take-add}
 use Rattle.std.proofs.lemmas.List.{length-take-le}
 use Rattle.io_base.specs.Causes.{counted}
-use Rattle.io_base.specs.Shelf.{ShelfState, GoesOn, Reads, CountsRead}
+use Rattle.io_base.specs.Shelf.{ShelfState, GoesOn, Reads, CountsRead, CountsNoChange}
 
 -- the file begins with these bytes; where it is not there, none were read
 abbrev pub Begins : Option (List ℕ) → List ℕ → Type 0
@@ -17,6 +17,8 @@ pub record IsLoading (old now : ShelfState) (name bytes : List ℕ) : Type 0 whe
   pub taken : now.taken ≡ counted old.taken (length bytes)
   pub absent : now.absent ≡ old.absent
   pub last_failed : now.last_failed ≡ old.last_failed
+  pub faults : now.faults ≡ old.faults
+  pub no_change : CountsNoChange old now
   pub begins : IsTrue old.tells → Begins (old.file name) bytes
 
 -- every file begins with no bytes
@@ -42,6 +44,8 @@ loading_starts shelf name bytes is_empty =
       taken = counted-zero shelf.taken;
       absent = refl;
       last_failed = refl;
+      faults = refl;
+      no_change = record { creates = refl; appends = refl };
       begins = λ _. begins_empty (shelf.file name);
     })
 
@@ -56,10 +60,10 @@ begins_more (Some file) bytes buf n within begins reads =
 -- after one more read
 pub loading_goes_on : (old now new : ShelfState) (name bytes buf more : List ℕ) (at n : ℕ) → at ≡ length bytes →
     IsLoading old now name bytes → GoesOn now new → new.file ≡ now.file → CountsRead now new (Ok (Some n)) →
-    new.last_failed ≡ now.last_failed → n ≤ length buf →
+    CountsNoChange now new → new.last_failed ≡ now.last_failed → new.faults ≡ now.faults → n ≤ length buf →
     (IsTrue now.tells → Reads (now.file name) at (Some n) buf) →
     more ≡ bytes ++ take n buf → IsLoading old new name more
-loading_goes_on old now new name bytes buf more at n here so_far goes_on same counts last within reads grown =
+loading_goes_on old now new name bytes buf more at n here so_far goes_on same counts no_change last calm within reads grown =
     let P : List ℕ → Type 0 = λ b. IsLoading old new name b in
     let size : length (bytes ++ take n buf) ≡ length bytes + n = omega (arith, length-append bytes (take n buf), length-take-le n buf within) in
     subst P (sym grown) (record {
@@ -74,6 +78,8 @@ loading_goes_on old now new name bytes buf more at n here so_far goes_on same co
       taken = counts.0 ∙ ap (λ (t : ℕ). counted t n) so_far.taken ∙ counted-counted old.taken (length bytes) n ∙ ap (λ (k : ℕ). counted old.taken k) (sym size);
       absent = cc;
       last_failed = cc;
+      faults = cc;
+      no_change = record { creates = no_change.creates ∙ so_far.no_change.creates; appends = no_change.appends ∙ so_far.no_change.appends };
       begins = λ t.
           let Q : (List ℕ → Option (List ℕ)) → Type 0 = λ f. Reads (f name) (length bytes) (Some n) buf in
           let R : ℕ → Type 0 = λ k. Reads (now.file name) k (Some n) buf in

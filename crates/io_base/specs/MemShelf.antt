@@ -18,6 +18,10 @@ calls_of shelf Read = shelf.reads
 calls_of shelf Create = shelf.creates
 calls_of shelf Append = shelf.appends
 
+-- how many bytes a read gives at most
+abbrev pub piece_of : MemShelf → ℕ
+piece_of shelf = shelf.piece
+
 -- one more call of the kind was made, and none of another kind
 pub record CountsCallOf (old new : MemShelf) (kind : CallKind) : Type 0 where
   pub called : CountsCall (calls_of old kind) (calls_of new kind)

@@ -13,6 +13,10 @@ pub record ShelfState : Type 0 where
   pub taken : ℕ
   -- how many of its reads have answered that the name is not there
   pub absent : ℕ
+  -- how many calls of create were made, those that failed too
+  pub creates : ℕ
+  -- how many calls of append were made, those that failed too
+  pub appends : ℕ
   -- whether the shelf tells its files: then reads give what stands in `file`
   pub tells : Bool
   -- whether the shelf is honest: then create and append do to their file what they say
@@ -31,6 +35,8 @@ pub record IsUncounted (shelf : ShelfState) : Type 0 where
   pub last_failed : shelf.last_failed ≡ []
   pub taken : shelf.taken ≡ 0
   pub absent : shelf.absent ≡ 0
+  pub creates : shelf.creates ≡ 0
+  pub appends : shelf.appends ≡ 0
 
 -- all but the files stays
 pub record SameButFiles (old new : ShelfState) : Type 0 where
@@ -38,10 +44,12 @@ pub record SameButFiles (old new : ShelfState) : Type 0 where
   pub last_failed : new.last_failed ≡ old.last_failed
   pub taken : new.taken ≡ old.taken
   pub absent : new.absent ≡ old.absent
+  pub creates : new.creates ≡ old.creates
+  pub appends : new.appends ≡ old.appends
   pub tells : new.tells ≡ old.tells
   pub honest : new.honest ≡ old.honest
 
--- what every call keeps: no count falls, and the shelf stays of its kind
+-- what every call keeps: no count of faults or of reads falls, and the shelf stays of its kind
 pub record GoesOn (old new : ShelfState) : Type 0 where
   pub later : old.faults ≤ new.faults
   pub taken : old.taken ≤ new.taken
@@ -49,11 +57,13 @@ pub record GoesOn (old new : ShelfState) : Type 0 where
   pub tells : new.tells ≡ old.tells
   pub honest : new.honest ≡ old.honest
 
--- a call with this name failed only where the count rose, and is then the last that failed
+-- a call with this name failed only where the count of faults rose, and is then the last that failed; a call that did
+-- not fail leaves both as they were
 pub record HasCause {T : Type 0} (old new : ShelfState) (name : List ℕ) (result : Result T Failed) : Type 0 where
   pub rose : OnErr result (Rose old.faults new.faults)
   pub named : OnErr result (new.last_failed ≡ name)
   pub kept : OnOk result (new.last_failed ≡ old.last_failed)
+  pub calm : OnOk result (new.faults ≡ old.faults)
 
 -- so many bytes were taken, and no read answered that a name is not there
 pub record CountsTaken (old new : ShelfState) (n : ℕ) : Type 0 where
@@ -64,6 +74,16 @@ pub record CountsTaken (old new : ShelfState) (n : ℕ) : Type 0 where
 pub record CountsNoRead (old new : ShelfState) : Type 0 where
   pub taken : new.taken ≡ old.taken
   pub absent : new.absent ≡ old.absent
+
+-- so many calls of create were made, and so many of append
+pub record CountsChanges (old new : ShelfState) (begun added : ℕ) : Type 0 where
+  pub creates : new.creates ≡ counted old.creates begun
+  pub appends : new.appends ≡ counted old.appends added
+
+-- no call of create or append was made
+pub record CountsNoChange (old new : ShelfState) : Type 0 where
+  pub creates : new.creates ≡ old.creates
+  pub appends : new.appends ≡ old.appends
 
 -- how a read with this answer is counted
 abbrev pub CountsRead : ShelfState → ShelfState → Result (Option ℕ) Failed → Type 0

@@ -76,6 +76,7 @@ impl<R: Files> Shelf for FileShelf<R> {
     }
 
     fn create(&mut self, name: &str) -> Result<(), Failed> {
+        self.counts.count_create();
         match File::create(&self.rt, name) {
             Ok(_) => Ok(()),
             Err(_) => {
@@ -86,6 +87,7 @@ impl<R: Files> Shelf for FileShelf<R> {
     }
 
     fn append(&mut self, name: &str, piece: &[u8]) -> Result<(), Failed> {
+        self.counts.count_append();
         match write_at_end(&self.rt, name, piece) {
             Ok(()) => Ok(()),
             Err(_) => {

@@ -1,7 +1,7 @@
 //! Loading a whole file, up to a limit.
 ghost use Rattle.std.specs.Prelude.{◌≡◌, ◌≤◌, ◌<◌, ◌-◌, ◌+◌, length, IsTrue, IfOk, IsErrOf, MatchResult, ◌⊎◌};
 ghost use Rattle.io_base.specs.Causes.{Rose};
-ghost use Rattle.io_base.specs.Shelf.{GoesOn, CountsTaken};
+ghost use Rattle.io_base.specs.Shelf.{GoesOn, CountsTaken, CountsNoChange};
 ghost use Rattle.io_base.specs.Loading.{IsWhole, ExplainsFault, TookMore};
 
 use crate::{Failed, Shelf};
@@ -65,6 +65,9 @@ pub fn load<S: Shelf>(
     ensures at_most { (S.state shelf.new).taken ≤ (S.state shelf.old).taken + limit + 1 }
     ensures kept { IsErrOf result LoadFault.Failed
         ⊎ ((S.state shelf.new).last_failed ≡ (S.state shelf.old).last_failed) }
+    ensures calm { IsErrOf result LoadFault.Failed
+        ⊎ ((S.state shelf.new).faults ≡ (S.state shelf.old).faults) }
+    ensures no_change { CountsNoChange (S.state shelf.old) (S.state shelf.new) }
     ensures same { (S.state shelf.new).file ≡ (S.state shelf.old).file }
     ensures goes_on { GoesOn (S.state shelf.old) (S.state shelf.new) }
 {

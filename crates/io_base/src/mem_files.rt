@@ -1,5 +1,5 @@
 //! Files in memory: a map of names to bytes.
-ghost use Rattle.std.specs.Prelude.{◌≡◌, ◌≢◌, ◌≤◌, [], ◌++◌, length, ℕ, List, Some, OnOk, OnErr};
+ghost use Rattle.std.specs.Prelude.{◌≡◌, ◌≢◌, ◌-◌, [], ◌++◌, length, ℕ, List, Some, min, OnOk, OnErr};
 ghost use Rattle.io_base.specs.Shelf.{Reads, bytes_or_empty};
 ghost use Rattle.io_base.specs.MemFiles.{file_in};
 
@@ -12,7 +12,7 @@ pub type MemFiles = BTreeMap<String, Vec<u8>>;
 
 /// Copies bytes from the place `at` on into the front of `buf`, as many as there are and fit.
 pub fn copy_from(bytes: &[u8], at: u64, buf: &mut [u8]) -> usize
-    ensures bound { result ≤ length buf.new }
+    ensures count { result ≡ min (length bytes.now - at) (length buf.new) }
     ensures reads { Reads (Some bytes.now) at (Some result) buf.new }
 {
     if at >= bytes.len() as u64 {

@@ -1,4 +1,4 @@
-//! What a shelf counts: its faults, with the name of the last one, and what its reads gave.
+//! What a shelf counts: its faults, with the name of the last one, what its reads gave, and its other calls.
 ghost use Rattle.std.specs.Prelude.{◌≡◌, ◌≤◌, [], length};
 ghost use Rattle.io_base.specs.Causes.{counted};
 
@@ -12,6 +12,8 @@ pub struct ShelfCounts {
     last_failed: ArrayVec<u8, 220>,
     taken: u64,
     absent: u64,
+    creates: u64,
+    appends: u64,
 }
 
 impl Model for ShelfCounts {
@@ -24,19 +26,23 @@ impl Model for ShelfCounts {
       last_failed = c.last_failed.items;
       taken = c.taken;
       absent = c.absent;
+      creates = c.creates;
+      appends = c.appends;
     } };
 }
 
 impl ShelfCounts {
     /// Nothing was counted yet.
     pub fn new() -> Self
-        ensures { result ≡ record { faults = 0; last_failed = []; taken = 0; absent = 0 } }
+        ensures { result ≡ record { faults = 0; last_failed = []; taken = 0; absent = 0; creates = 0; appends = 0 } }
     {
         ShelfCounts {
             faults: 0,
             last_failed: ArrayVec::new(),
             taken: 0,
             absent: 0,
+            creates: 0,
+            appends: 0,
         }
     }
 
@@ -65,5 +71,19 @@ impl ShelfCounts {
         ensures { self.new ≡ record self.old { absent = counted self.old.absent 1 } }
     {
         self.absent = self.absent.saturating_add(1);
+    }
+
+    /// Counts a call of `create`.
+    pub fn count_create(&mut self)
+        ensures { self.new ≡ record self.old { creates = counted self.old.creates 1 } }
+    {
+        self.creates = self.creates.saturating_add(1);
+    }
+
+    /// Counts a call of `append`.
+    pub fn count_append(&mut self)
+        ensures { self.new ≡ record self.old { appends = counted self.old.appends 1 } }
+    {
+        self.appends = self.appends.saturating_add(1);
     }
 }

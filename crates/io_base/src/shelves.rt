@@ -1,6 +1,6 @@
 //! A shelf of named files: what the program asks of a file system.
 ghost use Rattle.std.specs.Prelude.{◌≡◌, ◌≤◌, [], length, IsTrue, Some, IfOk, IfSome, OnOk, OnErr};
-ghost use Rattle.io_base.specs.Shelf.{ShelfState, GoesOn, HasCause, CountsRead, CountsNoRead, Reads, KeepsOthers, IsTold, Appends, AppendsPrefix, IsKeptOrEmpty};
+ghost use Rattle.io_base.specs.Shelf.{ShelfState, GoesOn, HasCause, CountsRead, CountsNoRead, CountsChanges, CountsNoChange, Reads, KeepsOthers, IsTold, Appends, AppendsPrefix, IsKeptOrEmpty};
 
 use crate::Failed;
 
@@ -23,6 +23,7 @@ pub trait Shelf {
             (λ count. Reads ((state self.old).file name.now) at count buf.new) }
         ensures same { (state self.new).file ≡ (state self.old).file }
         ensures counts { CountsRead (state self.old) (state self.new) result }
+        ensures no_change { CountsNoChange (state self.old) (state self.new) }
         ensures goes_on { GoesOn (state self.old) (state self.new) }
         ensures cause { HasCause (state self.old) (state self.new) name.now result };
 
@@ -36,6 +37,7 @@ pub trait Shelf {
             OnErr result (IsKeptOrEmpty (state self.old) (state self.new) name.now) }
         ensures others { KeepsOthers (state self.old) (state self.new) name.now }
         ensures counts { CountsNoRead (state self.old) (state self.new) }
+        ensures changes { CountsChanges (state self.old) (state self.new) 1 0 }
         ensures goes_on { GoesOn (state self.old) (state self.new) }
         ensures cause { HasCause (state self.old) (state self.new) name.now result };
 
@@ -49,6 +51,7 @@ pub trait Shelf {
             OnErr result (AppendsPrefix (state self.old) (state self.new) name.now piece.now) }
         ensures others { KeepsOthers (state self.old) (state self.new) name.now }
         ensures counts { CountsNoRead (state self.old) (state self.new) }
+        ensures changes { CountsChanges (state self.old) (state self.new) 0 1 }
         ensures goes_on { GoesOn (state self.old) (state self.new) }
         ensures cause { HasCause (state self.old) (state self.new) name.now result };
 }

@@ -1,7 +1,7 @@
 -- How what became of a file is what the search answers.
 use Rattle.std.proofs.Common.{ℕ, ◌≡◌, ◌+◌, ◌*◌, ◌^◌, ◌<◌, ◌≤◌, inl, inr, List, [], ◌∷◌, length, refl, sym, ap, subst, arith}
 use Rattle.std.specs.Prelude.{string_bytes}
-use Rattle.io_base.specs.Shelf.{ShelfState}
+use Rattle.io_base.specs.Shelf.{ShelfState, CountsChanges}
 use Rattle.io_base.specs.Sink.{SinkState}
 use Rattle.mcu_jumps.specs.Position.{Position}
 use Rattle.flow_graph.specs.Graph.{Graph}
@@ -16,8 +16,8 @@ use Rattle.ref_text.specs.Text.{refutation_text, part_text}
 use Rattle.refute_check.specs.Check.{check}
 use Rattle.refute_check.specs.declared.checked.Checked.TheVariants as checked
 use Rattle.saved_files.specs.FilesOfAnswers.{file_of, refuted_files, undecided_files}
-use Rattle.saved_files.specs.OneFile.{IsUnwritten}
-use Rattle.saved_files.specs.Saving.{IsSaved, FailedAt}
+use Rattle.saved_files.specs.OneFile.{IsWritten, IsUnwritten}
+use Rattle.saved_files.specs.Saving.{IsSaved, FailedAt, TakesOneUpTo}
 use Rattle.saved_files.specs.Unsaved.{cannot_save}
 use Rattle.replies.specs.Texts.{no_memory}
 use Rattle.replies.specs.Ending.{Says, Ends}
@@ -31,15 +31,22 @@ use Rattle.micro_cli.specs.Saving.{IsReady, SavesOrCannot}
 use Rattle.micro_cli.specs.Searching.{SearchAnswer}
 
 -- the file was saved, and its line is told
-pub saved_told : (name bytes line : List ℕ) (s : Status) (old new : ShelfState) → IsSaved old new (file_of name bytes ∷ [])
+pub saved_told : (name bytes line : List ℕ) (s : Status) (old new : ShelfState) → IsWritten old new name bytes → CountsChanges old new 1 1 → IsSaved old new (file_of name bytes ∷ [])
     → SavesOrCannot (file_of name bytes ∷ []) s line old new s line
-saved_told name bytes line s old new saved = inr (record { saved = saved; status_is = refl; text_is = refl })
+saved_told name bytes line s old new written calls saved =
+    inr (record {
+      saved = saved;
+      each_once = record { last_failed = written.last_failed; faults = written.faults; calls = calls };
+      no_read = written.only.no_read;
+      status_is = refl;
+      text_is = refl;
+    })
 
 -- the file was not saved, and that is told
-pub unsaved_told : (name bytes line : List ℕ) (s : Status) (old new : ShelfState) → IsUnwritten old new name bytes → FailedAt old new (file_of name bytes ∷ []) 0
+pub unsaved_told : (name bytes line : List ℕ) (s : Status) (old new : ShelfState) → IsUnwritten old new name bytes → TakesOneUpTo old new 0 → FailedAt old new (file_of name bytes ∷ []) 0
     → SavesOrCannot (file_of name bytes ∷ []) s line old new status.ShelfFault (cannot_save name)
-unsaved_told name bytes line s old new unwritten failed =
-    inl (record { place = 0; failed = failed; status_is = refl; text_is = ap cannot_save (sym unwritten.last_failed) })
+unsaved_told name bytes line s old new unwritten up_to failed =
+    inl (record { place = 0; failed = failed; up_to = up_to; no_read = unwritten.only.no_read; status_is = refl; text_is = ap cannot_save (sym unwritten.last_failed) })
 
 -- what became of a file that was ready
 pub ready_ends : (file : AnswerFile) (name bytes line : List ℕ) (s : Status) (old new : ShelfState) (from to : SinkState) (result : Status) → IsReady file name bytes line

@@ -11,9 +11,9 @@ use Rattle.micro_cli.specs.Mapping.{MapReply}
 use Rattle.micro_cli.specs.Flowing.{FlowReply}
 use Rattle.micro_cli.specs.Making.{MakeAnswer}
 
--- what the program answers to a command, or to words that are none
+-- what the program answers to a command, or to words that are none, for which the shelf is left as it was
 abbrev pub Answer : Option Command → ShelfState → ShelfState → Status → List ℕ → Type 0
-Answer None old new s text = (s ≡ status.Words) × (text ≡ codes "refused words\n")
+Answer None old new s text = (s ≡ status.Words) × (text ≡ codes "refused words\n") × (new ≡ old)
 Answer (Some (map src)) old new s text = OrNoMemory (MapReply src old new) s text
 Answer (Some (flow src script clocks)) old new s text = OrNoMemory (FlowReply src script clocks old new) s text
 Answer (Some (run out script clocks)) old new s text = OrNoMemory (RunReply out script clocks old new) s text

@@ -1,15 +1,17 @@
 -- What becomes of the one file of a search that found no placement (this project's own choice).
 use Rattle.std.specs.Prelude.{ℕ, ◌≡◌, ◌≤◌, ◌⊎◌, List, [], string_bytes, vec_capacity}
-use Rattle.io_base.specs.Shelf.{ShelfState}
+use Rattle.io_base.specs.Shelf.{ShelfState, CountsNoRead}
 use Rattle.saved_files.specs.SavedFile.{SavedFile}
-use Rattle.saved_files.specs.Saving.{IsSaved}
+use Rattle.saved_files.specs.Saving.{IsSaved, TakesOneEach}
 use Rattle.replies.specs.declared.status.Status.{Status}
 use Rattle.bench_answers.specs.Placed.{CannotSave}
 use Rattle.micro_cli.specs.declared.answer_files.AnswerFile.{AnswerFile}
 
--- the files were saved, and a line is told with a status
+-- the files were saved, without a fault or a read, each by one create and one append, and a line is told with a status
 pub record SavesAndTells (files : List SavedFile) (status : Status) (line : List ℕ) (old new : ShelfState) (s : Status) (text : List ℕ) : Type 0 where
   pub saved : IsSaved old new files
+  pub each_once : TakesOneEach old new files
+  pub no_read : CountsNoRead old new
   pub status_is : s ≡ status
   pub text_is : text ≡ line
 

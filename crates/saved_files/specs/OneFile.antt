@@ -17,6 +17,7 @@ pub record WritesOnly (start now : ShelfState) (name : List ℕ) : Type 0 where
 pub record IsWritten (start now : ShelfState) (name text : List ℕ) : Type 0 where
   pub only : WritesOnly start now name
   pub last_failed : now.last_failed ≡ start.last_failed
+  pub faults : now.faults ≡ start.faults
   pub whole : IsTold start → now.file name ≡ Some text
 
 -- this file alone was written since the start, a call on it failed at last, and it is as it was or holds a prefix of

@@ -1,7 +1,7 @@
 -- What stands after files were saved in their order, and after a fault in that. This project's own choice.
-use Rattle.std.specs.Prelude.{ℕ, ◌≡◌, ◌≢◌, ◌<◌, ◌≤◌, ◌+◌, List, length, Some, slice_get}
+use Rattle.std.specs.Prelude.{ℕ, ◌≡◌, ◌≢◌, ◌<◌, ◌≤◌, ◌+◌, ◌⊎◌, List, length, Some, slice_get}
 use Rattle.io_base.specs.Causes.{Rose}
-use Rattle.io_base.specs.Shelf.{ShelfState, IsTold}
+use Rattle.io_base.specs.Shelf.{ShelfState, IsTold, CountsChanges}
 use Rattle.saved_files.specs.SavedFile.{SavedFile}
 use Rattle.saved_files.specs.OneFile.{IsPart}
 
@@ -40,3 +40,13 @@ pub record FailedAt (old new : ShelfState) (files : List SavedFile) (place : ℕ
   pub others : KeepsAllBut old new files (place + 1)
   pub whole : IsTold old → AreWhole new files place
   pub part : IsTold old → IsPart (old.file failed.name) (new.file failed.name) failed.bytes
+
+-- no call failed, and each file took one create and one append
+pub record TakesOneEach (old new : ShelfState) (files : List SavedFile) : Type 0 where
+  pub last_failed : new.last_failed ≡ old.last_failed
+  pub faults : new.faults ≡ old.faults
+  pub calls : CountsChanges old new (length files) (length files)
+
+-- each file before this place took one create and one append, and the one at this place one create and at most one append
+abbrev pub TakesOneUpTo : ShelfState → ShelfState → ℕ → Type 0
+TakesOneUpTo old new place = CountsChanges old new (place + 1) place ⊎ CountsChanges old new (place + 1) (place + 1)

@@ -3,8 +3,9 @@
 //! Each call says what stands since the start, the state before the file was begun: so a loop that grows
 //! a file has one fact as its invariant, that the file is written with the text so far.
 ghost use Rattle.std.specs.Prelude.{ℕ, List, [], ◌++◌, ◌≤◌, length, OnOk, OnErr};
-ghost use Rattle.io_base.specs.Shelf.{ShelfState, HasCause};
+ghost use Rattle.io_base.specs.Shelf.{ShelfState, HasCause, CountsChanges};
 ghost use Rattle.saved_files.specs.OneFile.{WritesOnly, IsWritten, IsUnwritten};
+ghost use Rattle.saved_files.specs.Saving.{TakesOneUpTo};
 
 use io_base::{Failed, Shelf};
 
@@ -13,6 +14,7 @@ pub fn begin_file<S: Shelf>(shelf: &mut S, name: &str) -> Result<(), Failed>
     requires { length name.now ≤ 220 }
     ensures ok { OnOk result (IsWritten (S.state shelf.old) (S.state shelf.new) name.now []) }
     ensures err { OnErr result (IsUnwritten (S.state shelf.old) (S.state shelf.new) name.now []) }
+    ensures calls { CountsChanges (S.state shelf.old) (S.state shelf.new) 1 0 }
 {
     shelf.create(name)
 }
@@ -26,6 +28,7 @@ pub fn grow_file<S: Shelf>(shelf: &mut S, name: &str, piece: &[u8]) -> Result<()
         OnErr result (IsUnwritten start (S.state shelf.new) name.now (text ++ piece.now)) }
     ensures only { WritesOnly (S.state shelf.old) (S.state shelf.new) name.now }
     ensures cause { HasCause (S.state shelf.old) (S.state shelf.new) name.now result }
+    ensures calls { CountsChanges (S.state shelf.old) (S.state shelf.new) 0 1 }
 {
     match shelf.append(name, piece) {
         Ok(()) => Ok(()),
@@ -38,6 +41,8 @@ pub fn save_file<S: Shelf>(shelf: &mut S, name: &str, bytes: &[u8]) -> Result<()
     requires { length name.now ≤ 220 }
     ensures ok { OnOk result (IsWritten (S.state shelf.old) (S.state shelf.new) name.now bytes.now) }
     ensures err { OnErr result (IsUnwritten (S.state shelf.old) (S.state shelf.new) name.now bytes.now) }
+    ensures calls { OnOk result (CountsChanges (S.state shelf.old) (S.state shelf.new) 1 1) }
+    ensures tries { OnErr result (TakesOneUpTo (S.state shelf.old) (S.state shelf.new) 0) }
 {
     match begin_file(shelf, name) {
         Ok(()) => grow_file(shelf, name, bytes),

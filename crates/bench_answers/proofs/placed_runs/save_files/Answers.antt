@@ -4,7 +4,7 @@ use Rattle.saved_files.specs.Unsaved.{cannot_save}
 use Rattle.replies.specs.Texts.{no_memory}
 use Rattle.replies.specs.declared.status.Status.TheVariants as status
 use Rattle.replies.proofs.Stopping.{Ends-map, says_ends}
-use Rattle.bench_answers.specs.ReadingBack.{BackReply, OrWants}
+use Rattle.bench_answers.specs.ReadingBack.{BackReply, MayRun, OrWants}
 use Rattle.bench_answers.specs.Placed.{FilesAnswer, UnlessUnsaved}
 use Rattle.bench_answers.proofs.Replying.{saved_ends, unsaved_ends, keeps_all}
 use Rattle.bench_answers.proofs.placed_runs.save_files.Goals as goal
@@ -22,9 +22,9 @@ returns-in-Ok-save_all-clause-ends g c =
     let old = g.S.Shelf.state c.args.shelf.now in
     let mid = g.S.Shelf.state c.save_all.new.shelf in
     let new = g.S.Shelf.state c.read_back.new.shelf in
-    Ends-map (OrWants (BackReply asked.out.now asked.script.now c.args.bytes.now asked.clocks mid new))
+    Ends-map (OrWants (MayRun asked.out.now c.args.bytes.now mid new) (BackReply asked.out.now asked.script.now c.args.bytes.now asked.clocks mid new))
     (UnlessUnsaved old new (FilesAnswer asked.out.now asked.script.now c.args.bytes.now asked.clocks c.args.files.now old new))
-    (saved_ends asked.out.now asked.script.now c.args.bytes.now asked.clocks c.args.files.now old mid new c.in-Ok-save_all.ensures.ok c.in-Ok-save_all.ensures.no_read c.in-Ok-save_all.ensures.goes_on c.read_back.ensures.same)
+    (saved_ends asked.out.now asked.script.now c.args.bytes.now asked.clocks c.args.files.now old mid new c.in-Ok-save_all.ensures.ok c.in-Ok-save_all.ensures.each_once c.in-Ok-save_all.ensures.no_read c.in-Ok-save_all.ensures.goes_on c.read_back.ensures.same)
     (g.K.Sink.state c.args.out.now) (g.K.Sink.state c.read_back.new.out) c.read_back.result c.read_back.ensures.ends
 
 pub tell_unsaved-requires-clause-place : goal.tell_unsaved-requires-clause-place
@@ -40,7 +40,7 @@ returns-clause-ends g c =
     let failed = c.in-Err-save_all.ensures.err in
     says_ends (UnlessUnsaved old new (FilesAnswer asked.out.now asked.script.now c.args.bytes.now asked.clocks c.args.files.now old new))
     status.ShelfFault (cannot_save failed.failed.name) (g.K.Sink.state c.args.out.now) (g.K.Sink.state c.tell_unsaved.new.out) c.tell_unsaved.result
-    (unsaved_ends asked.out.now asked.script.now c.args.bytes.now asked.clocks c.args.files.now old new c.in-Err-save_all.place failed.failed (cannot_save failed.failed.name) failed failed.at refl)
+    (unsaved_ends asked.out.now asked.script.now c.args.bytes.now asked.clocks c.args.files.now old new c.in-Err-save_all.place failed.failed (cannot_save failed.failed.name) failed c.in-Err-save_all.ensures.up_to c.in-Err-save_all.ensures.no_read failed.at refl)
     (c.tell_unsaved.ensures.says failed.failed failed.at)
 
 pub returns-clause-others : goal.returns-clause-others

@@ -1,5 +1,5 @@
 use Rattle.std.proofs.Common.{◌≡◌, drop}
-use Rattle.bus_script.specs.Settings.{nothing_given, given_after}
+use Rattle.bus_script.specs.SettingSteps.{nothing_given, given_after}
 use Rattle.bus_script.proofs.clock_line.given_by.Given as goal
 
 abbrev pub invariant-loop-setting : goal.invariant-loop-setting

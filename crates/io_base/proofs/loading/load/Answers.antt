@@ -14,6 +14,6 @@ pieces-preserved g c =
     let here : c.len-at.result ≡ length c.pieces.bytes.items = grind (arith, common_steps) in
     let within : c.in-Ok-Some.count ≤ length c.read_at.new.buf = e.bound in
     record {
-      so_far = loading_goes_on _ _ _ _ _ _ _ _ _ here c.pieces.invariant.so_far e.goes_on e.same e.counts e.cause.kept within e.told more;
+      so_far = loading_goes_on _ _ _ _ _ _ _ _ _ here c.pieces.invariant.so_far e.goes_on e.same e.counts e.no_change e.cause.kept e.cause.calm within e.told more;
       fits = rw more (omega (arith, length-append c.pieces.bytes.items (take c.in-Ok-Some.count c.read_at.new.buf), length-take-le c.in-Ok-Some.count c.read_at.new.buf within));
     }

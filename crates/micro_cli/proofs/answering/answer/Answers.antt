@@ -44,7 +44,7 @@ returns-in-Unknown-clause-ends g c =
     (g.K.Sink.state c.args.out.now) (g.K.Sink.state c.say.new.out) c.say.result in
     subst P c.in-Unknown.ensures.command
     (says_ends (Answer None (g.S.Shelf.state c.args.shelf.now) (g.S.Shelf.state c.args.shelf.now)) status.Words (codes "refused words\n")
-    (g.K.Sink.state c.args.out.now) (g.K.Sink.state c.say.new.out) c.say.result (refl, refl) c.say.ensures.says)
+    (g.K.Sink.state c.args.out.now) (g.K.Sink.state c.say.new.out) c.say.result (refl, refl, refl) c.say.ensures.says)
 
 pub returns-in-Map-clause-keeps : goal.returns-in-Map-clause-keeps
 returns-in-Map-clause-keeps g c =

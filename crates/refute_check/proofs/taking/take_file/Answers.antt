@@ -16,7 +16,7 @@ pieces-preserved g c =
     let here : c.len-at.result ≡ length c.pieces.bytes.items = grind (arith, common_steps) in
     let within : c.in-Ok-Some.count ≤ length c.read_at.new.buf = e.bound in
     record {
-      so_far = loading_goes_on _ _ _ _ _ _ _ _ _ here c.pieces.invariant.so_far e.goes_on e.same e.counts e.cause.kept within e.told more;
+      so_far = loading_goes_on _ _ _ _ _ _ _ _ _ here c.pieces.invariant.so_far e.goes_on e.same e.counts e.no_change e.cause.kept e.cause.calm within e.told more;
       fits = rw more (omega (arith, length-append c.pieces.bytes.items (take c.in-Ok-Some.count c.read_at.new.buf), length-take-le c.in-Ok-Some.count c.read_at.new.buf within));
     }
 
@@ -26,7 +26,7 @@ returns-then-count-left-clause-taken g c =
     let more : c.extend_from_slice.new.self.items ≡ c.pieces.bytes.items ++ take c.in-Ok-Some.count c.read_at.new.buf = grind (arith, common_steps) in
     let here : c.len-at.result ≡ length c.pieces.bytes.items = grind (arith, common_steps) in
     let within : c.in-Ok-Some.count ≤ length c.read_at.new.buf = e.bound in
-    let so_far = loading_goes_on _ _ _ c.args.name.now _ _ _ _ _ here c.pieces.invariant.so_far e.goes_on e.same e.counts e.cause.kept within e.told more in
+    let so_far = loading_goes_on _ _ _ c.args.name.now _ _ _ _ _ here c.pieces.invariant.so_far e.goes_on e.same e.counts e.no_change e.cause.kept e.cause.calm within e.told more in
     let over : c.args.limit < length c.extend_from_slice.new.self.items =
     rw more (omega (arith, length-append c.pieces.bytes.items (take c.in-Ok-Some.count c.read_at.new.buf), length-take-le c.in-Ok-Some.count c.read_at.new.buf within)) in
     let cut : c.truncate.new.self.items ≡ take c.args.limit c.extend_from_slice.new.self.items = c.truncate.ensures.items in
