@@ -1,5 +1,6 @@
 pub mod Learning
-pub mod Decisions
+pub mod FirstPoint
+pub mod Marking
 pub mod Answer
 pub mod Progress
 pub mod Placing

@@ -1,15 +1,20 @@
 //! The line that is learned from a conflict, and the return to the level that it names.
 
-ghost use Rattle.std.specs.Prelude.{◌≡◌, ◌≢◌, ◌<◌, ◌^◌, ◌-◌, ◌++◌, [], length, flat_map, IfOk, OnOk};
+ghost use Rattle.std.specs.Prelude.{◌≡◌, ◌≢◌, ◌<◌, ◌^◌, ◌+◌, ◌-◌, [], length, replicate, false, IfOk, OnOk};
 ghost use Rattle.clause_base.specs.Refutation.{Derived};
 ghost use Rattle.clause_base.specs.Spent.{IsNew};
 ghost use Rattle.clause_base.specs.Truth.{lits_of, IsConflict};
 ghost use Rattle.trail.specs.Assignment.{level_of};
-ghost use Rattle.placer.specs.Decisions.{negation_of, reason_of};
+ghost use Rattle.placer.specs.FirstPoint.{IsFirstPointClause};
 ghost use Rattle.placer.specs.Learning.{Asserts};
+ghost use Rattle.placer.specs.Marking.{ArePlaces};
 ghost use Rattle.placer.specs.Progress.{Learns};
 
-use clause_base::{Entry, Line, Lit, Lits, Numbers};
+use crate::conflict_analysis::{
+    back_of, close_marks, first_point, mark_clause, marked_line, places_of,
+};
+use crate::turns::Turns;
+use clause_base::Line;
 use io_base::OutOfMemory;
 use propagate::Board;
 use std::alloc::Global;
@@ -23,43 +28,30 @@ pub struct Learnt {
     pub back: u32,
 }
 
-// Adds the negation of a decision to the clause, or the reason of an implied literal to the hints.
-fn add_entry(entry: Entry, clause: &mut Vec<Lit>, hints: &mut Vec<u32>) -> Result<(), OutOfMemory>
-    ensures clause { OnOk result (clause.new.items ≡ clause.old.items ++ negation_of entry) }
-    ensures hints { OnOk result (hints.new.items ≡ hints.old.items ++ reason_of entry) }
-{
-    if entry.reason == 0 {
-        clause.push(entry.lit.negated())?;
-    } else {
-        hints.push(entry.reason)?;
-    }
-    Ok(())
-}
-
-/// The line of the negations of all decisions. From them the reasons along the trail lead to the false clause.
-pub(crate) fn decision_line(
+// What a conflict above level 0 teaches, by the places of variables on the trail and marks that are set nowhere yet.
+fn learnt_by(
     alloc: Global,
     board: &Board,
     conflict: u32,
-) -> Result<Line, OutOfMemory>
-    requires { IsConflict (lits_of board.now.trail.entries) board.now.list.clauses conflict }
-    ensures clause { IfOk result (λ line. line.clause ≡ flat_map negation_of board.now.trail.entries) }
-    ensures derived { IfOk result (λ line. Derived board.now.list line) }
+    places: &[usize],
+    marks: &mut [bool],
+) -> Result<Learnt, OutOfMemory>
+    requires above { 0 < level_of board.now.trail.entries }
+    requires conflict { IsConflict (lits_of board.now.trail.entries) board.now.list.clauses conflict }
+    requires places { ArePlaces board.now.list.vars board.now.trail.entries places.now }
+    requires blank { marks.old ≡ replicate (board.now.list.vars + 1) false }
+    ensures derived { IfOk result (λ learnt. Derived board.now.list learnt.line) }
+    ensures asserts { IfOk result (λ learnt. Asserts board.now.trail.entries learnt.line.clause learnt.back) }
+    ensures first_point { IfOk result (λ learnt. IsFirstPointClause board.now.list.clauses board.now.trail.entries conflict learnt.line.clause) }
 {
-    // A proof learns here that each clause is over the list's variables.
-    let _vars = board.list().vars();
     let trail = board.trail();
-    let mut clause = Vec::new(alloc);
-    let mut hints = Vec::new(alloc);
-    for index in 0..trail.len() {
-        let entry = trail.entry(index);
-        add_entry(entry, &mut clause, &mut hints)?;
-    }
-    hints.push(conflict)?;
-    Ok(Line {
-        clause: Lits::of(clause),
-        hints: Numbers::of(hints),
-    })
+    // A proof learns here that the trail is in order.
+    let _ordered = trail.len();
+    let point = first_point(board, conflict, places, marks);
+    close_marks(board, places, point, marks);
+    let line = marked_line(alloc, board, conflict, places, marks, point)?;
+    let back = back_of(trail, places, point, line.clause.as_slice());
+    Ok(Learnt { line, back })
 }
 
 /// What a conflict above level 0 teaches: a line that is derived from the board's list and new to it. Its
@@ -72,15 +64,49 @@ pub fn analyse(alloc: Global, board: &Board, conflict: u32) -> Result<Learnt, Ou
     ensures full { IfOk result (λ learnt. learnt.line.clause ≢ []) }
     ensures new { IfOk result (λ learnt. IsNew board.now.list.clauses learnt.line.clause) }
     ensures asserts { IfOk result (λ learnt. Asserts board.now.trail.entries learnt.line.clause learnt.back) }
+    ensures first_point { IfOk result (λ learnt. IsFirstPointClause board.now.list.clauses board.now.trail.entries conflict learnt.line.clause) }
 {
-    // A proof learns here that each clause is over the list's variables.
-    let _vars = board.list().vars();
-    let trail = board.trail();
+    let vars = board.list().vars();
     // A proof learns here that the trail is in order.
-    let _ordered = trail.len();
-    let back = trail.level() - 1;
-    let line = decision_line(alloc, board, conflict)?;
-    Ok(Learnt { line, back })
+    let _ordered = board.trail().len();
+    let places = places_of(alloc, board)?;
+    let mut marks = vec![in alloc; false; vars as usize + 1]?;
+    learnt_by(alloc, board, conflict, &places, &mut marks)
+}
+
+// The line of a conflict at level 0, by the places of variables on the trail and marks that are set nowhere yet.
+fn last_line_by(
+    alloc: Global,
+    board: &Board,
+    conflict: u32,
+    places: &[usize],
+    marks: &mut [bool],
+) -> Result<Line, OutOfMemory>
+    requires level { level_of board.now.trail.entries ≡ 0 }
+    requires conflict { IsConflict (lits_of board.now.trail.entries) board.now.list.clauses conflict }
+    requires places { ArePlaces board.now.list.vars board.now.trail.entries places.now }
+    requires blank { marks.old ≡ replicate (board.now.list.vars + 1) false }
+    ensures empty { IfOk result (λ line. line.clause ≡ []) }
+    ensures derived { IfOk result (λ line. Derived board.now.list line) }
+{
+    let trail = board.trail();
+    let len = trail.len();
+    mark_clause(places, board.list().get(conflict), marks);
+    close_marks(board, places, len, marks);
+    marked_line(alloc, board, conflict, places, marks, 0)
+}
+
+/// The line with no literal that a conflict at level 0 gives. It names the reasons that the conflict stands on.
+pub(crate) fn last_line(alloc: Global, board: &Board, conflict: u32) -> Result<Line, OutOfMemory>
+    requires level { level_of board.now.trail.entries ≡ 0 }
+    requires conflict { IsConflict (lits_of board.now.trail.entries) board.now.list.clauses conflict }
+    ensures empty { IfOk result (λ line. line.clause ≡ []) }
+    ensures derived { IfOk result (λ line. Derived board.now.list line) }
+{
+    let vars = board.list().vars();
+    let places = places_of(alloc, board)?;
+    let mut marks = vec![in alloc; false; vars as usize + 1]?;
+    last_line_by(alloc, board, conflict, &places, &mut marks)
 }
 
 /// Learns from a conflict above level 0, after a return to the level that the line names.
@@ -88,6 +114,7 @@ pub(crate) fn learn_from(
     alloc: Global,
     board: &mut Board,
     lines: &mut Vec<Line>,
+    turns: &mut Turns,
     conflict: u32,
 ) -> Result<(), OutOfMemory>
     requires above { 0 < level_of board.old.trail.entries }
@@ -98,6 +125,8 @@ pub(crate) fn learn_from(
     // A proof learns here that the trail is in order.
     let _ordered = board.trail().len();
     let learnt = analyse(alloc, board, conflict)?;
+    turns.put_back_above(board.trail(), learnt.back);
+    turns.count_conflict();
     board.back_to(learnt.back);
     board.learn(learnt.line.clause.as_slice())?;
     lines.push(learnt.line)?;

@@ -13,9 +13,14 @@
 #![tactic(auto)]
 
 mod board_readings;
+mod conflict_analysis;
+mod label_ties;
 mod learning;
+mod order;
 mod placing;
+mod program_orders;
 mod searching;
+mod turns;
 
 pub use learning::{Learnt, analyse};
 pub use placing::{Placed, place};

@@ -9,8 +9,13 @@
 //! Contracts: `Board::settle`, `learn`, `decide`, `back_to`.
 #![tactic(auto)]
 
+mod attaching;
 mod board;
 mod clause_status;
+mod pairs;
+mod propagation;
 mod scan;
+mod visits;
+mod watch_lists;
 
 pub use board::{Board, Settled};

@@ -9,8 +9,8 @@ use io_base::OutOfMemory;
 use propagate::{Board, Settled};
 use std::test::Fail;
 
-// A board of clauses of one or two literals over four variables.
-fn board_of(rt: HostRuntime, clauses: &[&[i32]]) -> Result<Board, Fail> {
+/// A board of clauses of one to three literals over four variables.
+pub fn board_of(rt: HostRuntime, clauses: &[&[i32]]) -> Result<Board, Fail> {
     let list = list_of(rt.alloc(), 4, clauses)?;
     Ok(Board::new(rt.alloc(), list)?)
 }
@@ -43,8 +43,8 @@ fn propagation_alone(rt: HostRuntime) -> Result<(), Fail> {
     Ok(())
 }
 
-// Decides a literal on a settled board and settles it again.
-fn decide(board: &mut Board, value: i32) -> Result<Settled, Fail>
+/// Decides a literal on a settled board and settles it again.
+pub fn decide(board: &mut Board, value: i32) -> Result<Settled, Fail>
     requires { AreSettled (lits_of board.old.trail.entries) board.old.list.clauses }
     ensures { IfOk result (λ settled. Ends board.new settled) }
 {
@@ -97,5 +97,22 @@ fn conflict_and_return(rt: HostRuntime) -> Result<(), Fail> {
     assert!(rt; learn_alone(&mut board, -3)?);
     assert!(rt; stands_at(&board, 0, 2));
     assert!(rt; board.list().len() == 4);
+    Ok(())
+}
+
+// Learns the clause of no literal at level 0, and tells how the board settles then.
+fn settled_after_nothing(board: &mut Board) -> Result<Settled, Fail> {
+    board.back_to(0);
+    if board.list().len() == u32::MAX {
+        return Err("the list is full".into());
+    }
+    board.learn(&[])?;
+    Ok(board.settle()?)
+}
+
+#[test]
+fn clause_of_no_literal(rt: HostRuntime) -> Result<(), Fail> {
+    let mut board = board_in_conflict(rt)?;
+    assert!(rt; settled_after_nothing(&mut board)? == Settled::Conflict(4));
     Ok(())
 }

@@ -23,3 +23,5 @@ mod refutation_texts;
 mod searches;
 #[cfg(test)]
 mod trails;
+#[cfg(test)]
+mod watches;

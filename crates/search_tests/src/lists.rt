@@ -18,7 +18,23 @@ pub fn literal(value: i32, vars: u32) -> Result<Lit, Fail>
     Ok(lit)
 }
 
-// Adds a clause of one or two literals.
+// Adds a clause of three literals.
+fn add_three(list: &mut ClauseList, values: [i32; 3]) -> Result<(), Fail> {
+    let vars = list.vars();
+    if list.len() == u32::MAX {
+        return Err(Fail::from("the list is full"));
+    }
+    let first = literal(values[0], vars)?;
+    let second = literal(values[1], vars)?;
+    let third = literal(values[2], vars)?;
+    if first == second || first == third || second == third {
+        return Err(Fail::from("a literal comes twice"));
+    }
+    list.add(&[first, second, third])?;
+    Ok(())
+}
+
+// Adds a clause of one to three literals.
 fn add(list: &mut ClauseList, values: &[i32]) -> Result<(), Fail> {
     let vars = list.vars();
     if list.len() == u32::MAX {
@@ -34,12 +50,13 @@ fn add(list: &mut ClauseList, values: &[i32]) -> Result<(), Fail> {
             }
             list.add(&[first, second])?;
         }
-        _ => return Err(Fail::from("neither one literal nor two")),
+        [one, two, three] => add_three(list, [*one, *two, *three])?,
+        _ => return Err(Fail::from("no literal, or more than three")),
     }
     Ok(())
 }
 
-/// A list of clauses of one or two literals, over at most 1,000 variables.
+/// A list of clauses of one to three literals, over at most 1,000 variables.
 pub fn list_of(alloc: Global, vars: u32, clauses: &[&[i32]]) -> Result<ClauseList, Fail> {
     if vars > 1000 {
         return Err(Fail::from("more than a thousand variables"));

@@ -1,12 +1,15 @@
 //! Small lists and sources, and how their search ends.
 
+ghost use Rattle.std.specs.Prelude.{◌<◌, IfOk};
 ghost use Rattle.clause_base.specs.Truth.{lits_of, AreSettled};
+ghost use Rattle.trail.specs.Assignment.{level_of};
+ghost use Rattle.propagate.specs.Propagation.{Ends};
 
-use crate::lists::{list_of, literal};
+use crate::lists::{are_literals, list_of, literal};
 use crate::programs::{ONE_INSTRUCTION, ONE_LABEL_TWICE, program_of};
 use clause_base::ClauseList;
 use clause_encode::clause_count;
-use placer::{Placed, Verdict, analyse, place, search};
+use placer::{Learnt, Placed, Verdict, analyse, place, search};
 use propagate::{Board, Settled};
 use std::alloc::Global;
 use std::test::Fail;
@@ -65,33 +68,59 @@ fn small_lists(rt: HostRuntime) -> Result<(), Fail> {
     Ok(())
 }
 
-// Whether deciding 1 leads to a conflict whose line has one literal and goes back to level 0.
-fn learns_a_unit(alloc: Global, board: &mut Board) -> Result<bool, Fail>
+// Decides an unassigned variable, and settles the board.
+fn settled_after(board: &mut Board, number: i32) -> Result<Settled, Fail>
     requires { AreSettled (lits_of board.old.trail.entries) board.old.list.clauses }
+    ensures ends { IfOk result (λ settled. Ends board.new settled) }
+    ensures above { IfOk result (λ settled. 0 < level_of board.new.trail.entries) }
 {
-    let lit = literal(1, board.list().vars())?;
+    let lit = literal(number, board.list().vars())?;
     if board.trail().value(lit).is_some() {
         return Err(Fail::from("the variable is assigned"));
     }
     board.decide(lit);
-    match board.settle()? {
-        Settled::Done => Ok(false),
-        Settled::Conflict(number) => {
-            let learnt = analyse(alloc, board, number)?;
-            Ok(learnt.back == 0 && learnt.line.clause.as_slice().len() == 1)
-        }
-    }
+    Ok(board.settle()?)
 }
 
-#[test]
-fn line_of_a_conflict(rt: HostRuntime) -> Result<(), Fail> {
-    let list = list_of(rt.alloc(), 2, EVERY_PAIR)?;
-    let mut board = Board::new(rt.alloc(), list)?;
-    let settled = board.settle()?;
-    if settled != Settled::Done {
-        return Err(Fail::from("a board on which nothing is asked"));
+// What the conflict teaches that these decisions lead to.
+fn taught(alloc: Global, board: &mut Board, decisions: &[i32]) -> Result<Learnt, Fail>
+    requires { AreSettled (lits_of board.old.trail.entries) board.old.list.clauses }
+{
+    for number in decisions {
+        match settled_after(board, *number)? {
+            Settled::Done => {}
+            Settled::Conflict(conflict) => return Ok(analyse(alloc, board, conflict)?),
+        }
     }
-    assert!(rt; learns_a_unit(rt.alloc(), &mut board)?);
+    Err(Fail::from("decisions without a conflict"))
+}
+
+/// A number of variables, clauses over them, decisions that lead to a conflict, and what it teaches: the literals of
+/// the line, and the level to go back to.
+const LINES: [(u32, &[&[i32]], &[i32], &[i32], u32); 3] = [
+    (2, EVERY_PAIR, &[1], &[-1], 0),
+    // All that 2 leads to runs through 3, and 1 has no part in it.
+    (4, &[&[-2, 3], &[-3, 4], &[-3, -4]], &[1, 2], &[-3], 0),
+    // Back over the levels 2 and 3, which have no part in it.
+    (5, &[&[-1, -4, 5], &[-4, -5]], &[1, 2, 3, 4], &[-1, -4], 1),
+];
+
+#[test]
+fn lines_of_conflicts(rt: HostRuntime) -> Result<(), Fail> {
+    for (vars, clauses, decisions, literals, back) in &LINES {
+        let list = list_of(rt.alloc(), *vars, clauses)?;
+        let mut board = Board::new(rt.alloc(), list)?;
+        let settled = board.settle()?;
+        if settled != Settled::Done {
+            return Err(Fail::from("a board on which nothing is asked"));
+        }
+        let learnt = taught(rt.alloc(), &mut board, decisions)?;
+        assert!(rt;
+            are_literals(learnt.line.clause.as_slice(), literals),
+            "{vars} variables"
+        );
+        assert!(rt; learnt.back == *back, "{vars} variables");
+    }
     Ok(())
 }
 
@@ -131,6 +160,27 @@ Y: NOP R0 | goto Y
 Z: NOP R0 | goto Z
 ";
 
+// Five tests that share too few cells.
+const PAIRS: &[u8] = b"slices 1
+rows 2
+start S0
+S0: NOP R0 | iff T0 U0
+S1: NOP R0 | iff T1 U1
+S2: NOP R0 | iff T2 U2
+S3: NOP R0 | iff T3 U3
+S4: NOP R0 | iff T4 U4
+T0: NOP R0 | goto T0
+U0: NOP R0 | goto U0
+T1: NOP R0 | goto T1
+U1: NOP R0 | goto U1
+T2: NOP R0 | goto T2
+U2: NOP R0 | goto U2
+T3: NOP R0 | goto T3
+U3: NOP R0 | goto U3
+T4: NOP R0 | goto T4
+U4: NOP R0 | goto U4
+";
+
 // How placing a small source with a small budget ends.
 fn placing_ending(alloc: Global, source: &[u8], budget: u64) -> Option<Ending> {
     let program = program_of(alloc, source)?;
@@ -146,11 +196,12 @@ fn placing_ending(alloc: Global, source: &[u8], budget: u64) -> Option<Ending> {
 }
 
 /// A source, a budget, and how placing ends.
-const SOURCES: [(&[u8], u64, Ending); 4] = [
+const SOURCES: [(&[u8], u64, Ending); 5] = [
     (ONE_INSTRUCTION, 0, Ending::Model),
     (ONE_LABEL_TWICE, 0, Ending::Refuted),
     (PIGEONHOLE, 0, Ending::Undecided),
     (PIGEONHOLE, 1000, Ending::Refuted),
+    (PAIRS, 100, Ending::Refuted),
 ];
 
 #[test]

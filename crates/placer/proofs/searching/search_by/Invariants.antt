@@ -1,0 +1,12 @@
+use Rattle.std.proofs.Common.{◌≤◌, ◌+◌, ◌-◌, ◌*◌, length}
+use Rattle.placer.specs.Progress.{HasLearned}
+use Rattle.placer.proofs.searching.search_by.Given as goal
+
+abbrev pub invariant-turns : goal.invariant-turns
+invariant-turns l = record {
+  learned : HasLearned l.fn.list l.board l.lines.items;
+  few : length l.lines.items ≤ l.budget;
+}
+
+abbrev pub decreases-turns : goal.decreases-turns
+decreases-turns l = (l.budget - length l.lines.items) * (l.board.trail.vars + 3) + (l.board.trail.vars + 2 - length l.board.trail.entries)
