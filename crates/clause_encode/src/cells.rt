@@ -1,71 +1,84 @@
 //! The first two classes: each label has one cell, and the cells of two labels differ.
-ghost use Rattle.std.specs.Prelude.{◌≡◌, ◌<◌, ◌≤◌, ◌^◌, ◌+◌, ◌*◌, OnOk};
-ghost use Rattle.placement_clauses.specs.Number.{var_count_of};
-ghost use Rattle.placement_clauses.specs.Clauses.{cell_clauses, apart_clauses, class_1, class_2};
-ghost use Rattle.clause_encode.specs.Adds.{Adds};
+ghost use Rattle.std.specs.Prelude.{◌≡◌, ◌<◌, ◌≤◌, ◌^◌, ◌+◌, ◌*◌};
+ghost use Rattle.placement_clauses.specs.Number.{pairs_below};
+ghost use Rattle.placement_clauses.specs.Shape.{no_two};
+ghost use Rattle.placement_clauses.specs.Clauses.{cell_clauses, apart_clauses, apart_from_earlier};
+ghost use Rattle.clause_encode.specs.Shapes.{IsAt};
 
-use crate::shapes::{add_any_of, add_apart_unless, add_no_two};
+use crate::clause_shape::ClauseShape;
 use crate::variable_numbers::{col_var, differ_var, negative, positive, row_var};
-use clause_base::ClauseList;
-use io_base::OutOfMemory;
-use std::alloc::Global;
 
-// A label has exactly one row and exactly one column.
-fn add_cell(alloc: Global, list: &mut ClauseList, label: u32) -> Result<(), OutOfMemory>
+// Of the clauses by which no two variables of a run are true, the one at a place.
+fn no_two_clause(count: u32, first: u32, place: u32) -> ClauseShape
+    requires first { 0 < first }
+    requires room { first + count ≤ 2 ^ 31 }
+    requires place { place < pairs_below count }
+    ensures { IsAt (no_two count first) place result }
+{
+    let mut left = place;
+    for earlier in 0..count {
+        let block = count - 1 - earlier;
+        if left < block {
+            let later = earlier + 1 + left;
+            return ClauseShape::Two(negative(first + earlier), negative(first + later));
+        }
+        left -= block;
+    }
+    unreachable!()
+}
+
+/// Of the 618 clauses of a label's cell, the one at a place: some row, some column (2), the pairs of 32 rows (496), the
+/// pairs of 16 columns (120), which begin at place 498.
+pub(crate) fn cell_clause(label: u32, place: u32) -> ClauseShape
     requires label { label < 512 }
-    requires vars { list.old.vars < 2 ^ 31 }
-    requires room { 48 * label + 48 ≤ list.old.vars }
-    ensures { OnOk result (Adds list.old list.new (cell_clauses label)) }
+    requires place { place < 618 }
+    ensures { IsAt (cell_clauses label) place result }
 {
     let rows = row_var(label, 0);
     let cols = col_var(label, 0);
-    add_any_of(alloc, list, 32, rows)?;
-    add_any_of(alloc, list, 16, cols)?;
-    add_no_two(list, 32, rows)?;
-    add_no_two(list, 16, cols)?;
-    Ok(())
-}
-
-// Two labels have two cells.
-fn add_apart(list: &mut ClauseList, labels: u32, i: u32, j: u32) -> Result<(), OutOfMemory>
-    requires labels { labels ≤ 512 }
-    requires ordered { i < j }
-    requires second { j < labels }
-    requires vars { list.old.vars ≡ var_count_of labels }
-    ensures { OnOk result (Adds list.old list.new (apart_clauses labels j i)) }
-{
-    let differ = differ_var(labels, i, j);
-    add_apart_unless(list, negative(differ), 32, row_var(i, 0), row_var(j, 0))?;
-    add_apart_unless(list, positive(differ), 16, col_var(i, 0), col_var(j, 0))?;
-    Ok(())
-}
-
-/// The first class: each label has one cell.
-pub(crate) fn add_class_1(
-    alloc: Global,
-    list: &mut ClauseList,
-    labels: u32,
-) -> Result<(), OutOfMemory>
-    requires labels { labels ≤ 512 }
-    requires vars { list.old.vars ≡ var_count_of labels }
-    ensures { OnOk result (Adds list.old list.new (class_1 labels)) }
-{
-    for label in 0..labels {
-        add_cell(alloc, list, label)?;
+    if place == 0 {
+        ClauseShape::AnyOf(32, rows)
+    } else if place == 1 {
+        ClauseShape::AnyOf(16, cols)
+    } else if place < 498 {
+        no_two_clause(32, rows, place - 2)
+    } else {
+        no_two_clause(16, cols, place - 498)
     }
-    Ok(())
 }
 
-/// The second class: the cells of two labels differ.
-pub(crate) fn add_class_2(list: &mut ClauseList, labels: u32) -> Result<(), OutOfMemory>
+// Of the 48 clauses by which two labels have two cells, the one at a place: one for each row (32), one for each column
+// (16).
+fn pair_clause(labels: u32, earlier: u32, later: u32, place: u32) -> ClauseShape
     requires labels { labels ≤ 512 }
-    requires vars { list.old.vars ≡ var_count_of labels }
-    ensures { OnOk result (Adds list.old list.new (class_2 labels)) }
+    requires ordered { earlier < later }
+    requires later { later < labels }
+    requires place { place < 48 }
+    ensures { IsAt (apart_clauses labels later earlier) place result }
 {
-    for j in 0..labels {
-        for i in 0..j {
-            add_apart(list, labels, i, j)?;
-        }
+    let differ = differ_var(labels, earlier, later);
+    if place < 32 {
+        ClauseShape::Three(
+            negative(differ),
+            negative(row_var(earlier, 0) + place),
+            negative(row_var(later, 0) + place),
+        )
+    } else {
+        let col = place - 32;
+        ClauseShape::Three(
+            positive(differ),
+            negative(col_var(earlier, 0) + col),
+            negative(col_var(later, 0) + col),
+        )
     }
-    Ok(())
+}
+
+/// Of the clauses by which a label's cell is not that of an earlier label, 48 for each, the one at a place.
+pub(crate) fn apart_clause(labels: u32, label: u32, place: u32) -> ClauseShape
+    requires labels { labels ≤ 512 }
+    requires label { label < labels }
+    requires place { place < label * 48 }
+    ensures { IsAt (apart_from_earlier labels label) place result }
+{
+    pair_clause(labels, place / 48, label, place % 48)
 }

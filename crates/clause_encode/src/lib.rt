@@ -9,25 +9,21 @@
 //! Contracts: `encode`, `clause_at`, `var_count`, `clause_count`, `place_of`.
 #![tactic(auto)]
 
+mod block_numbers;
+mod blocks;
 mod cells;
-mod counting;
+mod clause_shape;
 mod decoding;
 mod encoding;
 mod first_label;
 mod flows;
 mod givens;
-mod literals;
 mod numbered;
-mod numbered_cells;
-mod numbered_flows;
-mod numbered_givens;
-mod numbered_traps;
 mod reaching;
-mod shapes;
+mod test_targets;
 mod traps;
 mod variable_numbers;
 
-pub use counting::clause_count;
 pub use decoding::place_of;
-pub use encoding::{encode, var_count};
+pub use encoding::{clause_count, encode, var_count};
 pub use numbered::clause_at;

@@ -14,9 +14,9 @@ use Rattle.placement_clauses.specs.Upto.{upto, at_place, each_of}
 use Rattle.placement_clauses.specs.Number.{plus, minus, row_var, col_var, way_var, pair_var, pairs_below}
 use Rattle.placement_clauses.specs.Shape.{one, same, same_where}
 use Rattle.placement_clauses.specs.Reaching.{col_of, keeps_half}
-use Rattle.placement_clauses.specs.Clauses.{at_clauses, bound_clauses, pin_clauses, goto_clauses, reach_lit, reach_clauses, col_clause, col_clauses, outcome_clauses, target_clauses, test_clauses, trap_pair, trap_of, class_1, class_2, class_3, class_4, class_5, clauses_of}
+use Rattle.placement_clauses.specs.Clauses.{at_clauses, bound_clauses, pin_clauses, goto_clauses, reach_lit, reach_clauses, col_clause, col_clauses, outcome_clauses, target_clauses, test_clauses, trap_pair, trap_of, cell_class, apart_class, given_class, flow_class, trap_class, clauses_of}
 use Rattle.placement_clauses.proofs.UptoLemmas.{upto-suc, length-upto, length-singles}
-use Rattle.placement_clauses.proofs.LengthLemmas.{length-more, length-class_1, length-class_2}
+use Rattle.placement_clauses.proofs.LengthLemmas.{length-more, length-cell_class, length-apart_class}
 use Rattle.placement_clauses.proofs.GotoPieces.{goto_rows, before_rows, goto_fronts}
 
 -- the clauses of one element more
@@ -153,8 +153,8 @@ length-free_landing n k x e o w each x_in =
         same ∙ ap (λ m. m * w) (sym one_less)
 
 -- class 3
-pub length-class_3 : (g : Graph) → length (class_3 g) ≡ 2 * length g.pins + 2 + length g.instrs * (32 - g.rows)
-length-class_3 g =
+pub length-given_class : (g : Graph) → length (given_class g) ≡ 2 * length g.pins + 2 + length g.instrs * (32 - g.rows)
+length-given_class g =
     let pins : List (List ℤ) = each_of g.pins pin_clauses in
     let start : List (List ℤ) = at_clauses g.start 0 0 in
     let bounds : List (List ℤ) = upto (length g.instrs) (bound_clauses g.rows) in
@@ -167,14 +167,14 @@ length-class_3 g =
     total l p b q c e f h = omega arith
 
 -- all classes
-pub length-clauses : (g : Graph) (a b c : ℕ) → length (class_3 g) ≡ a → length (class_4 g) ≡ b → length (class_5 g) ≡ c → length (clauses_of g) ≡ 618 * length g.instrs + 48 * pairs_below (length g.instrs) + a + b + c
+pub length-clauses : (g : Graph) (a b c : ℕ) → length (given_class g) ≡ a → length (flow_class g) ≡ b → length (trap_class g) ≡ c → length (clauses_of g) ≡ 618 * length g.instrs + 48 * pairs_below (length g.instrs) + a + b + c
 unfolding clauses_of
 length-clauses g a b c ha hb hc =
     let n = length g.instrs in
-    let l2 : length (class_1 n ++ class_2 n) ≡ length (class_1 n) + length (class_2 n) = length-append (class_1 n) (class_2 n) in
-    let l3 : length (class_1 n ++ class_2 n ++ class_3 g) ≡ length (class_1 n ++ class_2 n) + length (class_3 g) = length-append (class_1 n ++ class_2 n) (class_3 g) in
-    let l4 : length (class_1 n ++ class_2 n ++ class_3 g ++ class_4 g) ≡ length (class_1 n ++ class_2 n ++ class_3 g) + length (class_4 g) = length-append (class_1 n ++ class_2 n ++ class_3 g) (class_4 g) in
-    length-append (class_1 n ++ class_2 n ++ class_3 g ++ class_4 g) (class_5 g) ∙ total _ _ _ _ _ _ _ _ n (pairs_below n) (length-class_1 n) (length-class_2 n) l2 l3 l4 ha hb hc
+    let l2 : length (cell_class n ++ apart_class n) ≡ length (cell_class n) + length (apart_class n) = length-append (cell_class n) (apart_class n) in
+    let l3 : length (cell_class n ++ apart_class n ++ given_class g) ≡ length (cell_class n ++ apart_class n) + length (given_class g) = length-append (cell_class n ++ apart_class n) (given_class g) in
+    let l4 : length (cell_class n ++ apart_class n ++ given_class g ++ flow_class g) ≡ length (cell_class n ++ apart_class n ++ given_class g) + length (flow_class g) = length-append (cell_class n ++ apart_class n ++ given_class g) (flow_class g) in
+    length-append (cell_class n ++ apart_class n ++ given_class g ++ flow_class g) (trap_class g) ∙ total _ _ _ _ _ _ _ _ n (pairs_below n) (length-cell_class n) (length-apart_class n) l2 l3 l4 ha hb hc
   where
     total : (c1 c2 c3 c4 c5 l2 l3 l4 n p : ℕ) → c1 ≡ n * 618 → c2 ≡ p * 48 → l2 ≡ c1 + c2 → l3 ≡ l2 + c3 → l4 ≡ l3 + c4 → c3 ≡ a → c4 ≡ b → c5 ≡ c → l4 + c5 ≡ 618 * n + 48 * p + a + b + c
     total c1 c2 c3 c4 c5 l2 l3 l4 n p cells pairs two three four givens flows traps = omega arith

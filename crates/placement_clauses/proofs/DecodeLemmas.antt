@@ -20,7 +20,7 @@ use Rattle.placement_clauses.specs.Number.{row_var, col_var}
 use Rattle.placement_clauses.specs.Shape.{one, any_of}
 use Rattle.placement_clauses.specs.FirstLabel.{first_label}
 use Rattle.placement_clauses.specs.Meaning.{row_at, col_at, HaveTrueCells}
-use Rattle.placement_clauses.specs.Clauses.{at_clauses, bound_clauses, flow_clauses, trap_clauses, class_1, class_2, class_3, class_4, class_5, clauses_of, pin_clauses, instr_clauses, instr_traps}
+use Rattle.placement_clauses.specs.Clauses.{at_clauses, bound_clauses, flow_clauses, trap_clauses, cell_class, apart_class, given_class, flow_class, trap_class, clauses_of, pin_clauses, instr_clauses, instr_traps}
 use Rattle.placement_clauses.proofs.CanJump.{CanJump, IsValid, has-from_can}
 use Rattle.placement_clauses.proofs.JumpLemmas.{row-of, col-of, same_cell, cell-at}
 use Rattle.placement_clauses.proofs.CellLemmas.{at-holds, bound-holds}
@@ -28,7 +28,7 @@ use Rattle.placement_clauses.proofs.OneTargetLemmas.{OneTarget, first-target, on
 use Rattle.placement_clauses.proofs.EachTest.{IsTest, IsSingle, kind-cases, single-outcome, test-jump}
 use Rattle.placement_clauses.proofs.UptoLemmas.{upto-All, All-append_left, All-append_right, slice_get-append_left, slice_get-append_right}
 use Rattle.placement_clauses.proofs.TruthLemmas.{IsHot, hot-is, hot-any}
-use Rattle.placement_clauses.proofs.PlacedLemmas.{IsPlaced, Differ, class_1-holds, class_2-holds, differ-apart, goto-holds}
+use Rattle.placement_clauses.proofs.PlacedLemmas.{IsPlaced, Differ, cell_class-holds, apart_class-holds, differ-apart, goto-holds}
 use Rattle.placement_clauses.proofs.TestLemmas.{each-holds, InRange}
 
 -- the jump of a statement with one target, by its clauses
@@ -91,23 +91,23 @@ legal-from a g place valid cells_of_pins read h = record {
     P : List ℤ → Type 0
     P c = clause_holds a c ≡ true
 
-    front : AllHold a (class_1 (length g.instrs) ++ class_2 (length g.instrs) ++ class_3 g ++ class_4 g)
-    front = All-append_left (λ c. clause_holds a c ≡ true) (class_1 (length g.instrs) ++ class_2 (length g.instrs) ++ class_3 g ++ class_4 g) (class_5 g) h
+    front : AllHold a (cell_class (length g.instrs) ++ apart_class (length g.instrs) ++ given_class g ++ flow_class g)
+    front = All-append_left (λ c. clause_holds a c ≡ true) (cell_class (length g.instrs) ++ apart_class (length g.instrs) ++ given_class g ++ flow_class g) (trap_class g) h
 
-    traps : AllHold a (class_5 g)
-    traps = All-append_right (λ c. clause_holds a c ≡ true) (class_1 (length g.instrs) ++ class_2 (length g.instrs) ++ class_3 g ++ class_4 g) (class_5 g) h
+    traps : AllHold a (trap_class g)
+    traps = All-append_right (λ c. clause_holds a c ≡ true) (cell_class (length g.instrs) ++ apart_class (length g.instrs) ++ given_class g ++ flow_class g) (trap_class g) h
 
-    three : AllHold a (class_1 (length g.instrs) ++ class_2 (length g.instrs) ++ class_3 g)
-    three = All-append_left (λ c. clause_holds a c ≡ true) (class_1 (length g.instrs) ++ class_2 (length g.instrs) ++ class_3 g) (class_4 g) front
+    three : AllHold a (cell_class (length g.instrs) ++ apart_class (length g.instrs) ++ given_class g)
+    three = All-append_left (λ c. clause_holds a c ≡ true) (cell_class (length g.instrs) ++ apart_class (length g.instrs) ++ given_class g) (flow_class g) front
 
-    flows : AllHold a (class_4 g)
-    flows = All-append_right (λ c. clause_holds a c ≡ true) (class_1 (length g.instrs) ++ class_2 (length g.instrs) ++ class_3 g) (class_4 g) front
+    flows : AllHold a (flow_class g)
+    flows = All-append_right (λ c. clause_holds a c ≡ true) (cell_class (length g.instrs) ++ apart_class (length g.instrs) ++ given_class g) (flow_class g) front
 
-    third : AllHold a (class_3 g)
-    third = All-append_right (λ c. clause_holds a c ≡ true) (class_1 (length g.instrs) ++ class_2 (length g.instrs)) (class_3 g) three
+    third : AllHold a (given_class g)
+    third = All-append_right (λ c. clause_holds a c ≡ true) (cell_class (length g.instrs) ++ apart_class (length g.instrs)) (given_class g) three
 
-    second : AllHold a (class_2 (length g.instrs))
-    second = All-append_right (λ c. clause_holds a c ≡ true) (class_1 (length g.instrs)) (class_2 (length g.instrs)) (All-append_left (λ c. clause_holds a c ≡ true) (class_1 (length g.instrs) ++ class_2 (length g.instrs)) (class_3 g) three)
+    second : AllHold a (apart_class (length g.instrs))
+    second = All-append_right (λ c. clause_holds a c ≡ true) (cell_class (length g.instrs)) (apart_class (length g.instrs)) (All-append_left (λ c. clause_holds a c ≡ true) (cell_class (length g.instrs) ++ apart_class (length g.instrs)) (given_class g) three)
 
     ends : AllHold a (each_of g.pins pin_clauses ++ at_clauses g.start 0 0)
     ends = All-append_left (λ c. clause_holds a c ≡ true) (each_of g.pins pin_clauses ++ at_clauses g.start 0 0) (upto (length g.instrs) (bound_clauses g.rows)) third
@@ -125,7 +125,7 @@ legal-from a g place valid cells_of_pins read h = record {
     within i p e = let lt : i < length place = slice_get_within place i p e in let len : length place ≡ length g.instrs = read.count in omega arith
 
     differ : (i j : ℕ) → i < j → j < length g.instrs → Differ a (length g.instrs) (row_at place) (col_at place) i j
-    differ i j lt below = class_2-holds a (length g.instrs) (row_at place) (col_at place) read.placed second i j lt below
+    differ i j lt below = apart_class-holds a (length g.instrs) (row_at place) (col_at place) read.placed second i j lt below
 
     one_label : (i j : ℕ) (cell : Position) → slice_get place i ≡ Some cell → slice_get place j ≡ Some cell → i ≡ j
     one_label i j cell i_at j_at =
@@ -157,16 +157,16 @@ true-cells a place cells = λ i p at.
     (ap a (sym row_is) ∙ read.row, ap a (sym col_is) ∙ read.col)
 
 -- class 1, one label
-pub class_1-rows : (a : ℕ → Bool) (g : Graph) (i : ℕ) → i < length g.instrs → AllHold a (clauses_of g) → AllHold a (one (any_of 32 (row_var i 0))) × AllHold a (one (any_of 16 (col_var i 0)))
+pub cell_class-rows : (a : ℕ → Bool) (g : Graph) (i : ℕ) → i < length g.instrs → AllHold a (clauses_of g) → AllHold a (one (any_of 32 (row_var i 0))) × AllHold a (one (any_of 16 (col_var i 0)))
 unfolding clauses_of
-class_1-rows a g i lt h =
+cell_class-rows a g i lt h =
     let n = length g.instrs in
     let P : List ℤ → Type 0 = λ c. clause_holds a c ≡ true in
-    let first_four : AllHold a (class_1 n ++ class_2 n ++ class_3 g ++ class_4 g) = All-append_left P (class_1 n ++ class_2 n ++ class_3 g ++ class_4 g) (class_5 g) h in
-    let first_three : AllHold a (class_1 n ++ class_2 n ++ class_3 g) = All-append_left P (class_1 n ++ class_2 n ++ class_3 g) (class_4 g) first_four in
-    let first_two : AllHold a (class_1 n ++ class_2 n) = All-append_left P (class_1 n ++ class_2 n) (class_3 g) first_three in
-    let cells : AllHold a (class_1 n) = All-append_left P (class_1 n) (class_2 n) first_two in
-    let two = class_1-holds a n cells i lt in
+    let first_four : AllHold a (cell_class n ++ apart_class n ++ given_class g ++ flow_class g) = All-append_left P (cell_class n ++ apart_class n ++ given_class g ++ flow_class g) (trap_class g) h in
+    let first_three : AllHold a (cell_class n ++ apart_class n ++ given_class g) = All-append_left P (cell_class n ++ apart_class n ++ given_class g) (flow_class g) first_four in
+    let first_two : AllHold a (cell_class n ++ apart_class n) = All-append_left P (cell_class n ++ apart_class n) (given_class g) first_three in
+    let cells : AllHold a (cell_class n) = All-append_left P (cell_class n) (apart_class n) first_two in
+    let two = cell_class-holds a n cells i lt in
     (hot-any a 32 (row_var i 0) two.0.0 two.0.1, hot-any a 16 (col_var i 0) two.1.0 two.1.1)
 
 -- the cells that were read are a placement with the rows and columns of the values
@@ -176,15 +176,15 @@ read-from a g place h count cells = record {
   count = count;
   cells = λ i p e. let r = cells i p e in record { row = r.row_in; col = r.col_in };
   placed = record {
-    rows = λ i lt. let p = cell-at place (length g.instrs) i count lt in let r = cells i p.0 p.1 in let two = class_1-holds a (length g.instrs) first i lt in
+    rows = λ i lt. let p = cell-at place (length g.instrs) i count lt in let r = cells i p.0 p.1 in let two = cell_class-holds a (length g.instrs) first i lt in
         subst (IsHot a 32 (row_var i 0)) (hot-is a 32 (row_var i 0) two.0.0 p.0.row two.0.1 r.row_in r.row ∙ sym (row-of place i p.0 p.1)) two.0.1;
-    cols = λ i lt. let p = cell-at place (length g.instrs) i count lt in let r = cells i p.0 p.1 in let two = class_1-holds a (length g.instrs) first i lt in
+    cols = λ i lt. let p = cell-at place (length g.instrs) i count lt in let r = cells i p.0 p.1 in let two = cell_class-holds a (length g.instrs) first i lt in
         subst (IsHot a 16 (col_var i 0)) (hot-is a 16 (col_var i 0) two.1.0 p.0.col two.1.1 r.col_in r.col ∙ sym (col-of place i p.0 p.1)) two.1.1;
   };
 }
   where
-    first : AllHold a (class_1 (length g.instrs))
-    first = All-append_left (λ c. clause_holds a c ≡ true) (class_1 (length g.instrs)) (class_2 (length g.instrs)) (All-append_left (λ c. clause_holds a c ≡ true) (class_1 (length g.instrs) ++ class_2 (length g.instrs)) (class_3 g) (All-append_left (λ c. clause_holds a c ≡ true) (class_1 (length g.instrs) ++ class_2 (length g.instrs) ++ class_3 g) (class_4 g) (All-append_left (λ c. clause_holds a c ≡ true) (class_1 (length g.instrs) ++ class_2 (length g.instrs) ++ class_3 g ++ class_4 g) (class_5 g) h)))
+    first : AllHold a (cell_class (length g.instrs))
+    first = All-append_left (λ c. clause_holds a c ≡ true) (cell_class (length g.instrs)) (apart_class (length g.instrs)) (All-append_left (λ c. clause_holds a c ≡ true) (cell_class (length g.instrs) ++ apart_class (length g.instrs)) (given_class g) (All-append_left (λ c. clause_holds a c ≡ true) (cell_class (length g.instrs) ++ apart_class (length g.instrs) ++ given_class g) (flow_class g) (All-append_left (λ c. clause_holds a c ≡ true) (cell_class (length g.instrs) ++ apart_class (length g.instrs) ++ given_class g ++ flow_class g) (trap_class g) h)))
 
 -- one cell more
 pub read-more : (a : ℕ → Bool) (place : List Position) (n : ℕ) (q : Position) → length place ≡ n → ((i : ℕ) (p : Position) → slice_get place i ≡ Some p → IsReadCell a i p) → IsReadCell a n q → (i : ℕ) (p : Position) → slice_get (place ++ q ∷ []) i ≡ Some p → IsReadCell a i p

@@ -4,7 +4,7 @@ use Rattle.std.specs.Prelude.{slice_get}
 use Rattle.std.proofs.lemmas.List.{length-append}
 use Rattle.placement_clauses.specs.Upto.{upto}
 use Rattle.placement_clauses.specs.Number.{plus, minus, row_var, col_var, differ_var, pairs_below}
-use Rattle.placement_clauses.specs.Clauses.{cell_clauses, apart_clauses, class_1, class_2, apart_from_earlier}
+use Rattle.placement_clauses.specs.Clauses.{cell_clauses, apart_clauses, cell_class, apart_class, apart_from_earlier}
 use Rattle.placement_clauses.specs.Shape.{one, any_of, not_with_later, no_two, apart_unless}
 use Rattle.placement_clauses.proofs.UptoLemmas.{upto-none, upto-suc, upto-more, length-upto, length-singles, slice_get-singles, slice_get-upto, slice_get-blocks, slice_get-append_left, slice_get-append_right, length-triangle, pairs-more}
 
@@ -139,27 +139,27 @@ apart-at_col n j i k place lt e =
     ap (slice_get (rows ++ cols)) g ∙ slice_get-append_right rows cols k ∙ slice_get-singles 16 (λ k. plus d ∷ minus (col_var i 0 + k) ∷ minus (col_var j 0 + k) ∷ []) k lt
 
 -- 618 clauses for each label
-pub length-class_1 : (n : ℕ) → length (class_1 n) ≡ n * 618
-length-class_1 n = length-upto 618 n cell_clauses (λ i lt. length-cell i)
+pub length-cell_class : (n : ℕ) → length (cell_class n) ≡ n * 618
+length-cell_class n = length-upto 618 n cell_clauses (λ i lt. length-cell i)
 
 -- class 1 lies in blocks of 618
-pub class_1-at : (n i k place : ℕ) → i * 618 + k ≡ place → i < n → k < 618 → slice_get (class_1 n) place ≡ slice_get (cell_clauses i) k
-class_1-at n i k place e lt in_block = ap (slice_get (class_1 n)) (sym e) ∙ slice_get-blocks 618 n cell_clauses i k (λ i lt. length-cell i) lt in_block
+pub cell_class-at : (n i k place : ℕ) → i * 618 + k ≡ place → i < n → k < 618 → slice_get (cell_class n) place ≡ slice_get (cell_clauses i) k
+cell_class-at n i k place e lt in_block = ap (slice_get (cell_class n)) (sym e) ∙ slice_get-blocks 618 n cell_clauses i k (λ i lt. length-cell i) lt in_block
 
 -- 48 clauses for each earlier label
 pub length-earlier : (n j : ℕ) → length (apart_from_earlier n j) ≡ j * 48
 length-earlier n j = length-upto 48 j (apart_clauses n j) (λ i lt. length-apart n j i)
 
 -- 48 clauses for each pair of labels
-pub length-class_2 : (n : ℕ) → length (class_2 n) ≡ pairs_below n * 48
-length-class_2 n = length-triangle 48 n (λ i j. apart_clauses n j i) (λ i j lt below. length-apart n j i)
+pub length-apart_class : (n : ℕ) → length (apart_class n) ≡ pairs_below n * 48
+length-apart_class n = length-triangle 48 n (λ i j. apart_clauses n j i) (λ i j lt below. length-apart n j i)
 
 -- class 2 lies in blocks of 48
-pub class_2-at : (n j i k place : ℕ) → length (upto j (apart_from_earlier n)) + (i * 48 + k) ≡ place → j < n → i < j → k < 48 → slice_get (class_2 n) place ≡ slice_get (apart_clauses n j i) k
-class_2-at n j i k place e j_in i_in k_in =
+pub apart_class-at : (n j i k place : ℕ) → length (upto j (apart_from_earlier n)) + (i * 48 + k) ≡ place → j < n → i < j → k < 48 → slice_get (apart_class n) place ≡ slice_get (apart_clauses n j i) k
+apart_class-at n j i k place e j_in i_in k_in =
     let len : length (apart_from_earlier n j) ≡ j * 48 = length-earlier n j in
     let within : i * 48 + k < j * 48 = below i j k i_in k_in in
-    ap (slice_get (class_2 n)) (sym e) ∙ slice_get-upto n (apart_from_earlier n) j (i * 48 + k) j_in (omega arith) ∙ slice_get-blocks 48 j (apart_clauses n j) i k (λ i lt. length-apart n j i) i_in k_in
+    ap (slice_get (apart_class n)) (sym e) ∙ slice_get-upto n (apart_from_earlier n) j (i * 48 + k) j_in (omega arith) ∙ slice_get-blocks 48 j (apart_clauses n j) i k (λ i lt. length-apart n j i) i_in k_in
   where
     below : (i j k : ℕ) → i < j → k < 48 → i * 48 + k < j * 48
     below i j k p q = omega arith

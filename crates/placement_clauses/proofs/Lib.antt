@@ -1,4 +1,5 @@
 pub mod UptoLemmas
+pub mod JoinedLemmas
 pub mod GotoPieces
 pub mod TruthLemmas
 pub mod PlacedLemmas
@@ -18,3 +19,4 @@ pub mod MeaningLemmas
 pub mod PinLemmas
 pub mod CountLemmas
 pub mod NumberedLemmas
+pub mod FewClauses

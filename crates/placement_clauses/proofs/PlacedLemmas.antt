@@ -6,7 +6,7 @@ use Rattle.std.proofs.lemmas.Bool.{cases_Bool, cases_lt, eqb-true, eq-eqb, and_p
 use Rattle.placement_clauses.specs.Truth.{lit_holds, clause_holds, AllHold}
 use Rattle.placement_clauses.specs.Number.{plus, minus, row_var, col_var, differ_var, way_var}
 use Rattle.placement_clauses.specs.Shape.{one, any_of, no_two, apart_unless}
-use Rattle.placement_clauses.specs.Clauses.{cell_clauses, apart_clauses, class_1, class_2, apart_from_earlier, goto_clauses}
+use Rattle.placement_clauses.specs.Clauses.{cell_clauses, apart_clauses, cell_class, apart_class, apart_from_earlier, goto_clauses}
 use Rattle.placement_clauses.proofs.UptoLemmas.{All-upto, upto-All, All-append_left, All-append_right}
 use Rattle.placement_clauses.proofs.GotoPieces.{goto_some, goto_cols, goto_zero, goto_low, goto_rows, before_zero, before_low, before_rows}
 use Rattle.placement_clauses.proofs.TruthLemmas.{IsHot, hot-here, hot-is, hot-from, hot-any, hot-no_two, apart-holds, holds-apart, same_where-holds, holds-same_where, two-hold, hold-two, three-hold, hold-three, minus-false, from_minus, from_not, to_minus}
@@ -41,12 +41,12 @@ holds-cell a i r c h k =
     (hot-no_two a 16 (col_var i 0) c k)
 
 -- class 1 says that each label has one row and one column
-pub class_1-holds : (a : ℕ → Bool) (n : ℕ) → AllHold a (class_1 n) → (i : ℕ) → i < n → ((r : ℕ) × IsHot a 32 (row_var i 0) r) × ((c : ℕ) × IsHot a 16 (col_var i 0) c)
-class_1-holds a n h i lt = cell-holds a i (upto-All (λ c. clause_holds a c ≡ true) n cell_clauses h i lt)
+pub cell_class-holds : (a : ℕ → Bool) (n : ℕ) → AllHold a (cell_class n) → (i : ℕ) → i < n → ((r : ℕ) × IsHot a 32 (row_var i 0) r) × ((c : ℕ) × IsHot a 16 (col_var i 0) c)
+cell_class-holds a n h i lt = cell-holds a i (upto-All (λ c. clause_holds a c ≡ true) n cell_clauses h i lt)
 
 -- and the other way round
-pub holds-class_1 : (a : ℕ → Bool) (n : ℕ) (rho gam : ℕ → ℕ) → IsPlaced a n rho gam → AllHold a (class_1 n)
-holds-class_1 a n rho gam h = All-upto (λ c. clause_holds a c ≡ true) n cell_clauses (λ i lt. holds-cell a i (rho i) (gam i) (h.rows i lt) (h.cols i lt))
+pub holds-cell_class : (a : ℕ → Bool) (n : ℕ) (rho gam : ℕ → ℕ) → IsPlaced a n rho gam → AllHold a (cell_class n)
+holds-cell_class a n rho gam h = All-upto (λ c. clause_holds a c ≡ true) n cell_clauses (λ i lt. holds-cell a i (rho i) (gam i) (h.rows i lt) (h.cols i lt))
 
 -- class 2
 pub apart-differ : (a : ℕ → Bool) (n j i ri ci rj cj : ℕ) → IsHot a 32 (row_var i 0) ri → IsHot a 16 (col_var i 0) ci → IsHot a 32 (row_var j 0) rj → IsHot a 16 (col_var j 0) cj
@@ -79,16 +79,16 @@ pub record Differ (a : ℕ → Bool) (n : ℕ) (rho gam : ℕ → ℕ) (i j : �
   pub cols : a (differ_var n i j) ≡ false → gam i ≢ gam j
 
 -- class 2 says of two labels what their variable means
-pub class_2-holds : (a : ℕ → Bool) (n : ℕ) (rho gam : ℕ → ℕ) → IsPlaced a n rho gam → AllHold a (class_2 n) → (i j : ℕ) → i < j → j < n → Differ a n rho gam i j
-class_2-holds a n rho gam p h i j lt below =
+pub apart_class-holds : (a : ℕ → Bool) (n : ℕ) (rho gam : ℕ → ℕ) → IsPlaced a n rho gam → AllHold a (apart_class n) → (i j : ℕ) → i < j → j < n → Differ a n rho gam i j
+apart_class-holds a n rho gam p h i j lt below =
     let row : AllHold a (apart_from_earlier n j) = upto-All (λ c. clause_holds a c ≡ true) n (apart_from_earlier n) h j below in
     let here : AllHold a (apart_clauses n j i) = upto-All (λ c. clause_holds a c ≡ true) j (apart_clauses n j) row i lt in
     let within : i < n = omega arith in
     let r = apart-differ a n j i (rho i) (gam i) (rho j) (gam j) (p.rows i within) (p.cols i within) (p.rows j below) (p.cols j below) here in record { rows = r.0; cols = r.1 }
 
 -- and the other way round
-pub holds-class_2 : (a : ℕ → Bool) (n : ℕ) (rho gam : ℕ → ℕ) → IsPlaced a n rho gam → ((i j : ℕ) → i < j → j < n → Differ a n rho gam i j) → AllHold a (class_2 n)
-holds-class_2 a n rho gam p h =
+pub holds-apart_class : (a : ℕ → Bool) (n : ℕ) (rho gam : ℕ → ℕ) → IsPlaced a n rho gam → ((i j : ℕ) → i < j → j < n → Differ a n rho gam i j) → AllHold a (apart_class n)
+holds-apart_class a n rho gam p h =
     All-upto (λ c. clause_holds a c ≡ true) n (apart_from_earlier n) (λ j below. All-upto (λ c. clause_holds a c ≡ true) j (apart_clauses n j) (λ i lt.
     let within : i < n = omega arith in
     let d = h i j lt below in

@@ -18,14 +18,14 @@ use Rattle.placement_clauses.specs.Truth.{clause_holds, AllHold}
 use Rattle.placement_clauses.specs.Number.{row_var, col_var, differ_var, pair_var, way_var}
 use Rattle.placement_clauses.specs.FirstLabel.{first_label}
 use Rattle.placement_clauses.specs.Meaning.{row_at, col_at}
-use Rattle.placement_clauses.specs.Clauses.{at_clauses, bound_clauses, flow_clauses, trap_clauses, class_1, class_2, class_3, class_4, class_5, clauses_of, pin_clauses, instr_clauses, instr_traps}
+use Rattle.placement_clauses.specs.Clauses.{at_clauses, bound_clauses, flow_clauses, trap_clauses, cell_class, apart_class, given_class, flow_class, trap_class, clauses_of, pin_clauses, instr_clauses, instr_traps}
 use Rattle.placement_clauses.proofs.CanJump.{CanJump, IsValid, can-from_has}
 use Rattle.placement_clauses.proofs.JumpLemmas.{row-of, col-of, same_cell, cell-at}
 use Rattle.placement_clauses.proofs.CellLemmas.{holds-at, holds-bound}
 use Rattle.placement_clauses.proofs.OneTargetLemmas.{OneTarget, first-target, only-target, holds-no_traps, goto-fits, strobe-fits, enable-fits, holds-enable}
 use Rattle.placement_clauses.proofs.EachTest.{IsTest, IsSingle, kind-cases, single-outcome, test-sound}
 use Rattle.placement_clauses.proofs.UptoLemmas.{All-upto}
-use Rattle.placement_clauses.proofs.PlacedLemmas.{IsPlaced, Differ, holds-class_1, holds-class_2, holds-goto}
+use Rattle.placement_clauses.proofs.PlacedLemmas.{IsPlaced, Differ, holds-cell_class, holds-apart_class, holds-goto}
 use Rattle.placement_clauses.proofs.TestLemmas.{holds-each, InRange}
 
 -- the table of what the variables mean
@@ -96,10 +96,10 @@ unfolding clauses_of
 legal-sound a g place valid legal meant =
     let P : List ℤ → Type 0 = λ c. clause_holds a c ≡ true in
     let n = length g.instrs in
-    All-append P (class_1 n ++ class_2 n ++ class_3 g ++ class_4 g) (class_5 g)
-    (All-append P (class_1 n ++ class_2 n ++ class_3 g) (class_4 g)
-    (All-append P (class_1 n ++ class_2 n) (class_3 g)
-    (All-append P (class_1 n) (class_2 n) (holds-class_1 a n (row_at place) (col_at place) placed) (holds-class_2 a n (row_at place) (col_at place) placed differ))
+    All-append P (cell_class n ++ apart_class n ++ given_class g ++ flow_class g) (trap_class g)
+    (All-append P (cell_class n ++ apart_class n ++ given_class g) (flow_class g)
+    (All-append P (cell_class n ++ apart_class n) (given_class g)
+    (All-append P (cell_class n) (apart_class n) (holds-cell_class a n (row_at place) (col_at place) placed) (holds-apart_class a n (row_at place) (col_at place) placed differ))
     (All-append P (each_of g.pins pin_clauses ++ at_clauses g.start 0 0) (upto n (bound_clauses g.rows))
     (All-append P (each_of g.pins pin_clauses) (at_clauses g.start 0 0)
     (holds-each a g.pins pin_clauses (λ k p e. let q = legal.pins_kept k p e in let lt = valid.pins_in_range k p e in holds-at a p.label p.cell.row p.cell.col (row_at place p.label) (col_at place p.label) (placed.rows p.label lt) (placed.cols p.label lt) (row-of place p.label p.cell q) (col-of place p.label p.cell q)))

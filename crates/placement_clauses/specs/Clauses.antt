@@ -112,41 +112,41 @@ unfoldable pub trap_clauses : ℕ → Kind → List (Option ℕ) → List (List 
 trap_clauses n k targets = each_of targets (trap_outcome n k (first_label targets) (first_real targets))
 
 -- class 1: each label has one cell
-abbrev pub class_1 : ℕ → List (List ℤ)
-class_1 n = upto n cell_clauses
+abbrev pub cell_class : ℕ → List (List ℤ)
+cell_class n = upto n cell_clauses
 
 -- class 2 of label j and the labels before it
 abbrev pub apart_from_earlier : ℕ → ℕ → List (List ℤ)
 apart_from_earlier n j = upto j (apart_clauses n j)
 
 -- class 2: the cells of two labels differ
-abbrev pub class_2 : ℕ → List (List ℤ)
-class_2 n = upto n (apart_from_earlier n)
+abbrev pub apart_class : ℕ → List (List ℤ)
+apart_class n = upto n (apart_from_earlier n)
 
 -- a pinned label has its cell
 abbrev pub pin_clauses : ℕ → Pin → List (List ℤ)
 pin_clauses k pin = at_clauses pin.label pin.cell.row pin.cell.col
 
 -- class 3: the cells of the pins, the start label at row 0, column 0, and the rows below the bound
-abbrev pub class_3 : Graph → List (List ℤ)
-class_3 g = each_of g.pins pin_clauses ++ at_clauses g.start 0 0 ++ upto (length g.instrs) (bound_clauses g.rows)
+abbrev pub given_class : Graph → List (List ℤ)
+given_class g = each_of g.pins pin_clauses ++ at_clauses g.start 0 0 ++ upto (length g.instrs) (bound_clauses g.rows)
 
 -- class 4 of an instruction of n
 abbrev pub instr_clauses : ℕ → ℕ → Instr → List (List ℤ)
 instr_clauses n s instr = flow_clauses n s instr.kind instr.targets
 
 -- class 4: each instruction has a jump that lands on its labels
-abbrev pub class_4 : Graph → List (List ℤ)
-class_4 g = each_of g.instrs (instr_clauses (length g.instrs))
+abbrev pub flow_class : Graph → List (List ℤ)
+flow_class g = each_of g.instrs (instr_clauses (length g.instrs))
 
 -- class 5 of an instruction of n
 abbrev pub instr_traps : ℕ → ℕ → Instr → List (List ℤ)
 instr_traps n s instr = trap_clauses n instr.kind instr.targets
 
 -- class 5: the cells where trap outcomes land are free
-abbrev pub class_5 : Graph → List (List ℤ)
-class_5 g = each_of g.instrs (instr_traps (length g.instrs))
+abbrev pub trap_class : Graph → List (List ℤ)
+trap_class g = each_of g.instrs (instr_traps (length g.instrs))
 
 -- the placement clauses
 unfoldable pub clauses_of : Graph → List (List ℤ)
-clauses_of g = class_1 (length g.instrs) ++ class_2 (length g.instrs) ++ class_3 g ++ class_4 g ++ class_5 g
+clauses_of g = cell_class (length g.instrs) ++ apart_class (length g.instrs) ++ given_class g ++ flow_class g ++ trap_class g

@@ -6,7 +6,7 @@ use Rattle.flow_graph.specs.Graph.{graph_of}
 use Rattle.placement_clauses.specs.Truth.{AllHold, truth_in}
 use Rattle.placement_clauses.specs.Shape.{one, any_of}
 use Rattle.placement_clauses.specs.PinCells.{HavePinCells}
-use Rattle.placement_clauses.proofs.DecodeLemmas.{IsReadCell, class_1-rows, read-from, read-more, legal-from, true-cells}
+use Rattle.placement_clauses.proofs.DecodeLemmas.{IsReadCell, cell_class-rows, read-from, read-more, legal-from, true-cells}
 use Rattle.clause_encode.proofs.decoding.read_cells.Goals as goal
 
 pub first_true-row-requires-clause-some : goal.first_true-row-requires-clause-some
@@ -14,14 +14,14 @@ first_true-row-requires-clause-some c =
     let a = truth_in c.args.model.now in
     let g = graph_of c.args.program.now in
     let lt : c.loop-label.label < length g.instrs = omega (arith, c.len.ensures, c.from-labels.ensures) in
-    subst (λ (v : ℕ). AllHold a (one (any_of 32 v))) (sym c.row_var.ensures) (class_1-rows a g c.loop-label.label lt c.requires.holds).0
+    subst (λ (v : ℕ). AllHold a (one (any_of 32 v))) (sym c.row_var.ensures) (cell_class-rows a g c.loop-label.label lt c.requires.holds).0
 
 pub first_true-col-requires-clause-some : goal.first_true-col-requires-clause-some
 first_true-col-requires-clause-some c =
     let a = truth_in c.args.model.now in
     let g = graph_of c.args.program.now in
     let lt : c.loop-label.label < length g.instrs = omega (arith, c.len.ensures, c.from-labels.ensures) in
-    subst (λ (v : ℕ). AllHold a (one (any_of 16 v))) (sym c.col_var.ensures) (class_1-rows a g c.loop-label.label lt c.requires.holds).1
+    subst (λ (v : ℕ). AllHold a (one (any_of 16 v))) (sym c.col_var.ensures) (cell_class-rows a g c.loop-label.label lt c.requires.holds).1
 
 pub loop-label-preserved : goal.loop-label-preserved
 loop-label-preserved c =

@@ -1,7 +1,0 @@
-use Rattle.std.proofs.Common.{◌+◌, ◌∙◌, ap}
-use Rattle.placement_clauses.proofs.CountLemmas.{length-outcome_other}
-use Rattle.clause_encode.proofs.counting.outcome_count.Goals as goal
-
-pub returns-else-o-first-clause-count : goal.returns-else-o-first-clause-count
-returns-else-o-first-clause-count c = λ s y.
-    length-outcome_other c.args.kind s c.args.first.outcome c.args.first.label c.args.o y c.if-o-first.false ∙ ap (λ m. 32 + m) (c.cols_count-cols.ensures.count s c.args.o y)

@@ -1,6 +1,0 @@
-use Rattle.std.proofs.Common.{◌≡◌}
-use Rattle.placement_clauses.specs.Shape.{any_of}
-use Rattle.clause_encode.proofs.literals.any_at.Given as goal
-
-abbrev pub invariant-loop-k : goal.invariant-loop-k
-invariant-loop-k l = l.lits.items ≡ any_of l.k l.first

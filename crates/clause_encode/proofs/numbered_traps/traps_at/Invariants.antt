@@ -1,8 +1,0 @@
-use Rattle.std.proofs.Common.{◌≡◌, ◌+◌, length}
-use Rattle.placement_clauses.specs.Upto.{upto, at_place}
-use Rattle.placement_clauses.specs.Clauses.{trap_outcome}
-use Rattle.clause_encode.proofs.numbered_traps.traps_at.Given as goal
-
--- the place is in the targets to come
-abbrev pub invariant-loop-o : goal.invariant-loop-o
-invariant-loop-o l = length (upto l.o (at_place l.targets (trap_outcome l.labels l.kind l.first.label l.first.outcome))) + l.left ≡ l.place
