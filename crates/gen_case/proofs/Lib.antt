@@ -1,0 +1,13 @@
+pub mod DrawLemmas
+pub mod TextLemmas
+pub mod CaseNames
+pub mod LineForms
+pub mod InstrReads
+pub mod LinesTaken
+pub mod ProgramReads
+pub mod CaseLists
+pub mod SourceAccepted
+pub mod ScriptAccepted
+pub mod CaseLegal
+pub mod SumSteps
+pub mod CaseLengths

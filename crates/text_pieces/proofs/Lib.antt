@@ -1,0 +1,3 @@
+pub mod PieceTokens
+pub mod PieceTexts
+pub mod PieceLengths
