@@ -1,9 +1,7 @@
 //! The entries of a trail.
 
-ghost use Rattle.std.specs.Prelude.{◌≡◌};
-
 use crate::Lit;
-use std::marker::Model;
+use io_base::Listed;
 
 /// An assigned literal: decided, with reason 0, or implied by the clause whose number is its reason.
 #[derive(Clone, Copy, PartialEq, Eq, Debug)]
@@ -17,32 +15,4 @@ pub struct Entry {
 }
 
 /// Entries in the order in which they were assigned.
-#[derive(Drop)]
-pub struct Entries {
-    items: Vec<Entry>,
-}
-
-impl Model for Entries {
-    ghost use Rattle.std.specs.Prelude.{List};
-    ghost use Rattle.clause_base.specs.declared.entry.Entry.{Entry};
-
-    ghost Value = { List Entry };
-
-    ghost view = { λ l. l.items.items };
-}
-
-impl Entries {
-    /// These entries.
-    pub fn of(items: Vec<Entry>) -> Self
-        ensures { result ≡ items.items }
-    {
-        Entries { items }
-    }
-
-    /// The entries in order.
-    pub fn as_slice(&self) -> &[Entry]
-        ensures { result.now ≡ self.now }
-    {
-        &self.items
-    }
-}
+pub type Entries = Listed<Entry>;

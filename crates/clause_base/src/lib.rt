@@ -15,13 +15,9 @@ mod clause_list;
 mod entry;
 mod line;
 mod lit;
-mod log;
-mod numbers;
 
 pub use clash::Clash;
 pub use clause_list::ClauseList;
 pub use entry::{Entries, Entry};
-pub use line::Line;
+pub use line::{Line, Log, Numbers};
 pub use lit::{Lit, Lits};
-pub use log::Log;
-pub use numbers::Numbers;

@@ -1,6 +1,10 @@
-//! The lines of a refutation.
+//! The lines of a refutation, and the log of a search, which is a list of them.
 
-use crate::{Lits, Numbers};
+use crate::Lits;
+use io_base::Listed;
+
+/// Numbers of clauses, counted from 1: those of the list first, then one for each line.
+pub type Numbers = Listed<u32>;
 
 /// A clause, and the numbers of the clauses that it is derived from, in the order of the derivation.
 #[derive(Drop)]
@@ -11,3 +15,6 @@ pub struct Line {
     /// of a clause that is false then.
     pub hints: Numbers,
 }
+
+/// Lines in order.
+pub type Log = Listed<Line>;

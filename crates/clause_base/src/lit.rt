@@ -3,6 +3,7 @@
 ghost use Rattle.std.specs.Prelude.{◌≡◌, ◌<◌, ◌^◌, neg_ℤ, SomeIff};
 ghost use Rattle.clause_base.specs.Lit.{IsLit, var_of, is_positive};
 
+use io_base::Listed;
 use std::marker::Model;
 
 /// A literal: the number of a variable, with a minus sign where it is negated. Variables count from 1.
@@ -80,31 +81,4 @@ impl Default for Lit {
 }
 
 /// Literals in order, as those of a clause.
-#[derive(Drop)]
-pub struct Lits {
-    items: Vec<Lit>,
-}
-
-impl Model for Lits {
-    ghost use Rattle.std.specs.Prelude.{ℤ, List};
-
-    ghost Value = { List ℤ };
-
-    ghost view = { λ l. l.items.items };
-}
-
-impl Lits {
-    /// The literals of this list.
-    pub fn of(items: Vec<Lit>) -> Self
-        ensures { result ≡ items.items }
-    {
-        Lits { items }
-    }
-
-    /// The literals in order.
-    pub fn as_slice(&self) -> &[Lit]
-        ensures { result.now ≡ self.now }
-    {
-        &self.items
-    }
-}
+pub type Lits = Listed<Lit>;

@@ -5,7 +5,7 @@ ghost use Rattle.std.specs.List.{list_any};
 ghost use Rattle.field_decl.specs.Fields.{widths, can_write, write_place};
 
 use crate::name::Name;
-use std::marker::Model;
+use io_base::Listed;
 
 /// A user field of the microword.
 #[derive(Clone, Copy)]
@@ -19,35 +19,7 @@ pub struct Field {
 }
 
 /// Fields in the order in which they are declared.
-#[derive(Drop)]
-pub struct Fields {
-    items: Vec<Field>,
-}
-
-impl Model for Fields {
-    ghost use Rattle.std.specs.Prelude.{List};
-    ghost use Rattle.field_decl.specs.declared.field.Field.{Field};
-
-    ghost Value = { List Field };
-
-    ghost view = { λ fields. fields.items.items };
-}
-
-impl Fields {
-    /// The fields of this list.
-    pub fn of(items: Vec<Field>) -> Fields
-        ensures { result ≡ items.items }
-    {
-        Fields { items }
-    }
-
-    /// The fields in order.
-    pub fn as_slice(&self) -> &[Field]
-        ensures { result.now ≡ self.now }
-    {
-        &self.items
-    }
-}
+pub type Fields = Listed<Field>;
 
 /// The bits of all fields together.
 pub(crate) fn widths(fields: &[Field]) -> u32

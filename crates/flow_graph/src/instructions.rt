@@ -6,9 +6,9 @@ ghost use Rattle.flow_graph.specs.Targets.{HasLabel};
 use crate::Targets;
 use cpe_slice::Fn7;
 use field_decl::{FieldValues, Name};
+use io_base::Listed;
 use mcu_chip::FlagCtl;
 use mcu_jumps::Kind;
-use std::marker::Model;
 
 /// An instruction: what its line of the source says, in a program. Its jump is not fixed before the
 /// labels have cells.
@@ -33,35 +33,7 @@ pub struct Instr {
 }
 
 /// The instructions of a program, in source order. The place of one is its label.
-#[derive(Drop)]
-pub struct Instrs {
-    items: Vec<Instr>,
-}
-
-impl Model for Instrs {
-    ghost use Rattle.std.specs.Prelude.{List};
-    ghost use Rattle.flow_graph.specs.declared.instructions.Instr.{Instr};
-
-    ghost Value = { List Instr };
-
-    ghost view = { λ instrs. instrs.items.items };
-}
-
-impl Instrs {
-    /// The instructions of this list.
-    pub fn of(items: Vec<Instr>) -> Self
-        ensures { result ≡ items.items }
-    {
-        Instrs { items }
-    }
-
-    /// The instructions in source order.
-    pub fn as_slice(&self) -> &[Instr]
-        ensures { result.now ≡ self.now }
-    {
-        &self.items
-    }
-}
+pub type Instrs = Listed<Instr>;
 
 // The first outcome whose target is a label.
 fn first_label(targets: &[Option<u16>]) -> Option<usize>

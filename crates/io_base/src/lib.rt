@@ -9,12 +9,15 @@
 //! A shelf *tells its files* where contracts see their bytes, and is *honest* where `create` and `append` do to a
 //! file what they say. `MemShelf`, in memory, does both. Of `FileShelf`, the system's files, neither is assumed.
 //!
-//! Contracts: `load`, `put_all`, the traits `Shelf` and `Sink`.
+//! `Listed` is the list of every crate above that keeps values in order and nothing more.
+//!
+//! Contracts: `load`, `put_all`, `Listed`, the traits `Shelf` and `Sink`.
 #![tactic(auto)]
 
 mod call_plan;
 mod faults;
 mod file_shelf;
+mod listed;
 mod loading;
 mod mem_files;
 mod mem_shelf;
@@ -26,6 +29,7 @@ mod std_sink;
 
 pub use faults::{Failed, OutOfMemory};
 pub use file_shelf::FileShelf;
+pub use listed::Listed;
 pub use loading::{LoadFault, load};
 pub use mem_shelf::{CallKind, MemShelf};
 pub use mem_sink::MemSink;

@@ -1,41 +1,12 @@
 //! An instruction, as it is written.
 
-ghost use Rattle.std.specs.Prelude.{◌≡◌};
-
 use crate::operation::Operation;
 use crate::setting::Settings;
 use field_decl::Name;
-use std::marker::Model;
+use io_base::Listed;
 
 /// The targets of a flow statement by name, in the order of its outcomes; None is the trap.
-#[derive(Drop)]
-pub struct TargetNames {
-    items: Vec<Option<Name>>,
-}
-
-impl Model for TargetNames {
-    ghost use Rattle.std.specs.Prelude.{List, ℕ, Option};
-
-    ghost Value = { List (Option (List ℕ)) };
-
-    ghost view = { λ targets. targets.items.items };
-}
-
-impl TargetNames {
-    /// These targets, in the order of the outcomes.
-    pub fn of(items: Vec<Option<Name>>) -> TargetNames
-        ensures { result ≡ items.items }
-    {
-        TargetNames { items }
-    }
-
-    /// The targets in the order of the outcomes.
-    pub fn as_slice(&self) -> &[Option<Name>]
-        ensures { result.now ≡ self.now }
-    {
-        &self.items
-    }
-}
+pub type TargetNames = Listed<Option<Name>>;
 
 /// An instruction, as it is written; nothing in it is judged yet.
 #[derive(Drop)]
