@@ -1,17 +1,12 @@
-"""Tests of tools/shown: how a document's commands are found, and what counts as shown."""
-import importlib.machinery
-import importlib.util
+"""Tests of tools/shown.py: how a document's commands are found, and what counts as shown."""
+
 import unittest
-from pathlib import Path
 
-PATH = Path(__file__).resolve().parent.parent / "shown"
-LOADER = importlib.machinery.SourceFileLoader("shown", str(PATH))
-SPEC = importlib.util.spec_from_loader("shown", LOADER)
-shown = importlib.util.module_from_spec(SPEC)
-LOADER.exec_module(shown)
+import samples  # noqa: F401 (puts the scripts on the path)
+import shown
 
 
-class Shown(unittest.TestCase):
+class ShownTest(unittest.TestCase):
     """The parts of the script that need no program."""
 
     def test_commands_end_at_the_next_command_and_at_the_end_of_the_block(self):

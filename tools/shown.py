@@ -1,15 +1,15 @@
 #!/usr/bin/env python3
 """Runs the commands that README and the guide show, on the very files of examples/, and compares what they print.
 
-usage: tools/shown [--program FILE] [--write] [DOCUMENT ..]
+usage: tools/shown.py [--program FILE] [--write] [DOCUMENT ..]
 
 A command stands in an indented block as a line `$ COMMAND`; the lines below it, to the next command or the block's
-end, are what it prints. A line `..` there stands for any lines that are left out. `./buravelo` is the built program.
+end, are what it prints. A line `..` there stands for any lines that are left out. `./buravelo` is the program, which
+is built first where it is not, or the one that is named.
 All commands of a document run in order in one scratch folder, which has a copy of examples/. With --write the shown
 text is replaced by what came, where nothing is left out of it. Exit status: 0 where all is as shown, else 1.
 """
 import argparse
-import os
 import re
 import shutil
 import subprocess
@@ -17,7 +17,10 @@ import sys
 import tempfile
 from pathlib import Path
 
-HERE = Path(__file__).resolve().parent.parent
+from repository import ROOT
+
+PROGRAM = "crates/micro_cli/out/micro_cli"
+SAID_WITH_NO_WORDS = "refused words"
 DOCUMENTS = ["README.md", "docs/guide.md"]
 INDENT = "    "
 SECONDS = 120
@@ -59,7 +62,7 @@ def check_document(document, program, write):
     lines = document.read_text(encoding="utf-8").splitlines()
     edits, count, wrong = [], 0, 0
     with tempfile.TemporaryDirectory() as folder:
-        shutil.copytree(HERE / "examples", Path(folder) / "examples")
+        shutil.copytree(ROOT / "examples", Path(folder) / "examples")
         for place, command, end in commands_of(lines):
             count += 1
             shown = [line[len(INDENT):] for line in lines[place + 1:end]]
@@ -69,7 +72,7 @@ def check_document(document, program, write):
             wrong += 1
             if write and ".." not in shown:
                 edits.append((place + 1, end, [INDENT + line for line in came]))
-            print(f"{document.relative_to(HERE)}:{place + 1}: {command}\n  shown: {shown}\n  came:  {came}")
+            print(f"{document.relative_to(ROOT)}:{place + 1}: {command}\n  shown: {shown}\n  came:  {came}")
     for begin, end, text in reversed(edits):
         lines[begin:end] = text
     if edits:
@@ -77,20 +80,26 @@ def check_document(document, program, write):
     return count, wrong
 
 
+def built_program():
+    """The program, which `buravelo` has built where it was not; none where it can not be built."""
+    said = subprocess.run([ROOT / "buravelo"], stdout=subprocess.PIPE, check=False, text=True).stdout
+    return ROOT / PROGRAM if said.strip() == SAID_WITH_NO_WORDS else None
+
+
 def main():
     """Checks the documents named, or README and the guide."""
     options = argparse.ArgumentParser(description=__doc__.splitlines()[0])
-    options.add_argument("--program", default=str(HERE / "crates/micro_cli/out/micro_cli"))
+    options.add_argument("--program")
     options.add_argument("--write", action="store_true")
     options.add_argument("documents", nargs="*", default=DOCUMENTS)
     words = options.parse_args()
-    program = Path(words.program).resolve()
-    if not os.access(program, os.X_OK):
-        print(f"tools/shown: {program.name} is not built: run ./buravelo first")
+    program = Path(words.program).resolve() if words.program else built_program()
+    if program is None:
+        print("the program was not built")
         return 1
     total, wrong = 0, 0
     for name in words.documents:
-        count, failed = check_document(HERE / name, program, words.write)
+        count, failed = check_document(ROOT / name, program, words.write)
         total, wrong = total + count, wrong + failed
     print(f"shown commands: {total - wrong} as shown, {wrong} not")
     return 1 if wrong or not total else 0
