@@ -1,47 +1,19 @@
 -- What accepted directives declare fits together.
-use Rattle.std.proofs.Common.{◌≡◌, ℕ, ◌+◌, ◌*◌, ◌%◌, ◌^◌, ◌≤◌, ◌<◌, true, false, ◌&&◌, ◌||◌, List, [], ◌∷◌, ◌++◌, length, Option, Some, None, refl, sym, subst, ◌∙◌, arith, eqb}
+use Rattle.std.proofs.Common.{◌≡◌, ℕ, ◌+◌, ◌*◌, ◌%◌, ◌^◌, ◌≤◌, ◌<◌, true, false, ◌&&◌, List, [], ◌∷◌, ◌++◌, length, Option, Some, refl, subst, ◌∙◌, arith}
 use Rattle.std.specs.Prelude.{nat_lt, nat_le, unwrap_or}
 use Rattle.std.specs.List.{list_all}
 use Rattle.std.proofs.Math.Nat.{pow-le-pow_right, mod-eq_of_lt}
 use Rattle.std.proofs.lemmas.Bool.{and_from, le-leb, lt-ltb}
-use Rattle.std.proofs.lemmas.List.Elements.{All-nil, All-push}
+use Rattle.std.proofs.lemmas.List.Elements.{All-push}
 use Rattle.std.proofs.lemmas.List.Folds.{list_all-append}
 use Rattle.micro_lex.specs.Names.{IsName}
 use Rattle.field_decl.specs.declared.field.Field.{Field}
-use Rattle.field_decl.specs.Earlier.{Declared, declared_by, IsSound}
+use Rattle.field_decl.specs.Earlier.{Declared, IsSound}
 use Rattle.field_decl.specs.Fields.{has_field, is_sized, widths, word_bits}
 use Rattle.field_decl.proofs.FieldLemmas.{distinct_push, widths_push, write_is_bit, few_fields}
 
 abbrev Prom : Type 0
 Prom = Option (ℕ × ℕ)
-
--- nothing is declared
-pub sound_none : IsSound (declared_by [])
-sound_none = record {
-  fits = record { some_slices = omega arith; most_slices = omega arith; some_kbus = omega arith; shared = refl; named = All-nil _; distinct = refl; sized = refl; word = omega arith; words = refl; bits = refl; write_bit = refl };
-  ordered = λ _. refl;
-}
-
--- slices are given
-pub sound_slices : (slices kbus : Option ℕ) (fields : List Field) (prom : Prom) (write : Option (List ℕ)) (n : ℕ) → IsSound (record { slices = slices; kbus = kbus; fields = fields; prom = prom; write = write })
-    → slices ≡ None → 1 ≤ n → n ≤ 16 → IsSound (record { slices = Some n; kbus = kbus; fields = fields; prom = prom; write = write })
-sound_slices slices kbus fields prom write n h none least most =
-    let free : kbus ≡ None = h.ordered none in
-    record {
-      fits = record { some_slices = least; most_slices = most; some_kbus = h.fits.some_kbus; shared = rw free (omega arith); named = h.fits.named; distinct = h.fits.distinct; sized = h.fits.sized; word = h.fits.word; words = h.fits.words; bits = h.fits.bits; write_bit = h.fits.write_bit };
-      ordered = λ _. free;
-    }
-
--- a K bus is given that shares the bus
-pub sound_kbus : (slices kbus : Option ℕ) (fields : List Field) (prom : Prom) (write : Option (List ℕ)) (n k : ℕ) → IsSound (record { slices = slices; kbus = kbus; fields = fields; prom = prom; write = write })
-    → slices ≡ Some n → 0 < k → 2 * n % k ≡ 0 → word_bits k fields ≤ 96 → IsSound (record { slices = slices; kbus = Some k; fields = fields; prom = prom; write = write })
-sound_kbus slices kbus fields prom write n k h some pos shares narrow = record {
-  fits = record { some_slices = h.fits.some_slices; most_slices = h.fits.most_slices; some_kbus = pos; shared = rw some shares; named = h.fits.named; distinct = h.fits.distinct; sized = h.fits.sized; word = narrow; words = h.fits.words; bits = h.fits.bits; write_bit = h.fits.write_bit };
-  ordered = λ none. absurd (given slices n some none);
-}
-  where
-    given : (o : Option ℕ) (n : ℕ) → o ≡ Some n → o ≡ None → ⊥
-    given o n some none = let e : (let x : Option ℕ = Some n in x ≡ None) = sym some ∙ none in absurd cc
 
 -- a field of a new name is given
 pub sound_field : (slices kbus : Option ℕ) (fields : List Field) (prom : Prom) (write : Option (List ℕ)) (field : Field) → IsSound (record { slices = slices; kbus = kbus; fields = fields; prom = prom; write = write })
@@ -66,14 +38,6 @@ sound_field slices kbus fields prom write field h name new least most fits narro
       };
       ordered = h.ordered;
     }
-
--- PROMs are given
-pub sound_prom : (slices kbus : Option ℕ) (fields : List Field) (prom : Prom) (write : Option (List ℕ)) (words bits : ℕ) → IsSound (record { slices = slices; kbus = kbus; fields = fields; prom = prom; write = write })
-    → words ≡ 512 → (eqb bits 4 || eqb bits 8) ≡ true → IsSound (record { slices = slices; kbus = kbus; fields = fields; prom = Some (words, bits); write = write })
-sound_prom slices kbus fields prom write words bits h w b = record {
-  fits = record { some_slices = h.fits.some_slices; most_slices = h.fits.most_slices; some_kbus = h.fits.some_kbus; shared = h.fits.shared; named = h.fits.named; distinct = h.fits.distinct; sized = h.fits.sized; word = h.fits.word; words = w; bits = b; write_bit = h.fits.write_bit };
-  ordered = h.ordered;
-}
 
 -- a write field is given
 pub sound_write : (slices kbus : Option ℕ) (fields : List Field) (prom : Prom) (write : Option (List ℕ)) (name : List ℕ) → IsSound (record { slices = slices; kbus = kbus; fields = fields; prom = prom; write = write })

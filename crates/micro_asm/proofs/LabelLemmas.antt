@@ -54,12 +54,6 @@ any_at p [] k x at passes = absurd (cc at)
 any_at p (y ∷ xs) zero x at passes = let same : y ≡ x = cc in or_left (p y) (list_any p xs) (ap p same ∙ passes)
 any_at p (y ∷ xs) (suc k) x at passes = or_right (p y) (list_any p xs) (any_at p xs k x at passes)
 
--- where none passes, none does
-pub none_at : {X : Type 0} (p : X → Bool) (xs : List X) (k : ℕ) (x : X) → list_any p xs ≡ false → slice_get xs k ≡ Some x → p x ≡ false
-none_at p [] k x none at = absurd (cc at)
-none_at p (y ∷ xs) zero x none at = let same : y ≡ x = cc in sym (ap p same) ∙ (or_parts (p y) (list_any p xs) none).0
-none_at p (y ∷ xs) (suc k) x none at = none_at p xs k x (or_parts (p y) (list_any p xs) none).1 at
-
 -- what is not found does not pass
 pub missed_at : {X : Type 0} (p : X → Bool) (xs : List X) (k : ℕ) (x : X) → find p xs ≡ None → slice_get xs k ≡ Some x → p x ≡ false
 missed_at p [] k x none at = absurd (cc at)

@@ -1,53 +1,11 @@
 -- What accepted lines keep.
-use Rattle.std.proofs.Common.{◌≡◌, ℕ, ◌<◌, ◌≤◌, true, false, List, [], ◌∷◌, ◌++◌, length, Option, Some, refl, sym, subst, ◌∙◌, arith}
-use Rattle.std.specs.Prelude.{All}
+use Rattle.std.proofs.Common.{◌≡◌, ℕ, ◌<◌, true, false, List, [], ◌∷◌, ◌++◌, length, sym, subst, ◌∙◌, arith}
 use Rattle.std.proofs.lemmas.List.{length-append}
-use Rattle.std.proofs.lemmas.List.Elements.{All-nil, All-push}
-use Rattle.field_decl.specs.Earlier.{Declared}
-use Rattle.micro_asm.specs.declared.accepted_lines.StartLine.{StartLine}
+use Rattle.std.proofs.lemmas.List.Elements.{All-push}
 use Rattle.micro_asm.specs.declared.accepted_lines.PinLine.{PinLine}
 use Rattle.micro_asm.specs.declared.accepted_lines.NamedInstr.{NamedInstr}
-use Rattle.micro_asm.specs.Earlier.{Facts, facts_of, IsSound, IsNamedInstr, declaration_so_far, has_label, is_pinned, labels_of, pinned_labels, are_apart}
+use Rattle.micro_asm.specs.Earlier.{Facts, IsSound, IsNamedInstr, declaration_so_far, has_label, is_pinned, labels_of, pinned_labels, are_apart}
 use Rattle.micro_asm.proofs.LabelLemmas.{label_among, labels_push, pinned_label, pinned_push, apart_push}
-
--- nothing is said
-pub sound_none : IsSound (facts_of [])
-sound_none = record { some_row = omega arith; most_rows = omega arith; few = omega arith; labels_apart = refl; pins_apart = refl; instrs = All-nil _ }
-
-no_instrs : (instrs : List NamedInstr) → length instrs ≡ 0 → instrs ≡ []
-no_instrs [] none = refl
-no_instrs (instr ∷ instrs) none = absurd (omega arith)
-
--- before the first instruction the declaration may change
-pub sound_declared : (facts : Facts) (declared : Declared) → IsSound facts → length facts.instrs ≡ 0 → IsSound (record facts { declared = declared })
-sound_declared facts declared h none = record {
-  some_row = h.some_row;
-  most_rows = h.most_rows;
-  few = h.few;
-  labels_apart = h.labels_apart;
-  pins_apart = h.pins_apart;
-  instrs = subst (All (IsNamedInstr (declaration_so_far declared))) (sym (no_instrs facts.instrs none)) (All-nil _);
-}
-
-pub sound_rows : (facts : Facts) (rows : ℕ) → IsSound facts → 1 ≤ rows → rows ≤ 32 → IsSound (record facts { rows = Some rows })
-sound_rows facts rows h least most = record {
-  some_row = least;
-  most_rows = most;
-  few = h.few;
-  labels_apart = h.labels_apart;
-  pins_apart = h.pins_apart;
-  instrs = h.instrs;
-}
-
-pub sound_start : (facts : Facts) (start : Option StartLine) → IsSound facts → IsSound (record facts { start = start })
-sound_start facts start h = record {
-  some_row = h.some_row;
-  most_rows = h.most_rows;
-  few = h.few;
-  labels_apart = h.labels_apart;
-  pins_apart = h.pins_apart;
-  instrs = h.instrs;
-}
 
 pub sound_pin : (facts : Facts) (pin : PinLine) → IsSound facts → is_pinned facts.pins pin.label ≡ false → IsSound (record facts { pins = facts.pins ++ pin ∷ [] })
 sound_pin facts pin h new = record {

@@ -63,10 +63,6 @@ widths_drop [] (suc place) = omega arith
 widths_drop (f ∷ fields) zero = omega arith
 widths_drop (f ∷ fields) (suc place) = omega (arith, widths_drop fields place, sum_by-cons (λ (g : Field). g.width) f fields)
 
--- a field is no wider than all fields
-pub width_within : (fields : List Field) (place : ℕ) (field : Field) → slice_get fields place ≡ Some field → field.width ≤ widths fields
-width_within fields place field at = omega (arith, widths_at fields place field at, widths_drop fields place)
-
 -- the value of one more field
 pub joined_turn : (fields : List Field) (values : List ℕ) (place number : ℕ) (field : Field) (value : ℕ)
     → AreValues fields values → widths fields ≤ 96 → slice_get fields place ≡ Some field → slice_get values place ≡ Some value → Turned fields values (suc place) number

@@ -9,9 +9,7 @@ use Rattle.std.proofs.lemmas.Nat.{pow_pos, pow-add, div-mul-add, mod-mul-add, sh
 use Rattle.std.proofs.lemmas.Option.{slice_get_within}
 use Rattle.std.proofs.Math.Nat.{mul-le-mul_right, pow-le-pow_right, mod-lt}
 use Rattle.bpnf.specs.Image.{Image, IsImage}
-use Rattle.field_decl.specs.Declaration.{Declaration}
-use Rattle.prom_split.specs.Parts.{width_of}
-use Rattle.prom_split.specs.Images.{FitImages, AreJoined, words_in, shown_bit}
+use Rattle.prom_split.specs.Images.{words_in, shown_bit}
 use Rattle.prom_split.proofs.ImageBits.{bit_at-low, bit_at-sum_low, bit_at-sum_high}
 use Rattle.prom_split.proofs.ListSteps.{length_push, number_before, number_last}
 
@@ -102,12 +100,4 @@ read_push width bits images count words number r shows = record {
         let last : get_or (words ++ number % 2 ^ width ∷ []) address 0 ≡ number % 2 ^ width = number_last words (number % 2 ^ width) address (omega (arith, r.many)) in
         ap (λ (a : ℕ). shown_bit bits images a bit) here ∙ sym (shows bit lt) ∙ sym (bit_at-low number width bit lt) ∙ ap (λ (word : ℕ). bit_at word bit) (sym last))
   ];
-}
-
--- all words are read
-pub read_all : (decl : Declaration) (images : List Image) (words : List ℕ) → FitImages decl images → Read (width_of decl) decl.prom_bits images 512 words → AreJoined decl images words
-read_all decl images words fit r = record {
-  images_fit = fit;
-  words_fit = record { count = r.many; fit = r.fit };
-  shown = λ address bit below lt. r.shown address bit below lt;
 }

@@ -1,5 +1,5 @@
 -- The words of the cells, one cell at a time.
-use Rattle.std.proofs.Common.{ℕ, ◌+◌, ◌^◌, ◌<◌, ◌≡◌, sym, ap, ap₂, subst, ◌∙◌, arith, List, [], ◌∷◌, ◌++◌, length, Some, None, slice_get, inl, inr}
+use Rattle.std.proofs.Common.{ℕ, ◌+◌, ◌^◌, ◌<◌, ◌≡◌, sym, ap, ap₂, subst, ◌∙◌, arith, List, [], ◌∷◌, ◌++◌, length, Some, slice_get, inl, inr}
 use Rattle.std.specs.List.{All}
 use Rattle.std.proofs.lemmas.Bool.{cases_lt}
 use Rattle.std.proofs.lemmas.List.Elements.{All-push}
@@ -7,10 +7,9 @@ use Rattle.mcu_jumps.specs.Position.{Position, IsCell, address_of}
 use Rattle.mcu_jumps.specs.JumpWord.{JumpWord}
 use Rattle.flow_graph.specs.declared.instructions.Instr.{Instr}
 use Rattle.flow_graph.specs.Graph.{Graph}
-use Rattle.place_model.specs.Cells.{IsAt}
 use Rattle.place_model.specs.Legal.{IsLegal, IsJumpOf}
 use Rattle.prom_split.specs.Parts.{width_of}
-use Rattle.prom_split.specs.Microword.{AreWords, IsWordOf, IsInstrWord, word_at, word_with, free_word}
+use Rattle.prom_split.specs.Microword.{IsWordOf, IsInstrWord, word_at, word_with}
 use Rattle.prom_split.proofs.ListSteps.{length_push, number_before, number_last, some_back}
 
 -- the word at a label's cell
@@ -23,10 +22,6 @@ word_of_label g place label instr cell jump word legal here at is e = record { l
         let same : other ≡ label = legal.cells_differ other label cell cell_there at in
         let instrs : instr ≡ x = some_back instr x (sym here ∙ ap (slice_get g.instrs) (sym same) ∙ there) in
         subst (λ (y : Instr). IsInstrWord g place y cell word) instrs (jump, is, e)
-
--- the word at a free cell
-pub word_of_free : (g : Graph) (place : List Position) (cell : Position) (word : ℕ) → IsAt place None cell → word ≡ free_word g.decl cell → IsWordOf g place cell word
-word_of_free g place cell word free e = record { label = λ label instr here at. absurd (free label at); free = λ _. e }
 
 abbrev pub cell_at : ℕ → ℕ → Position
 cell_at row col = record { row = row; col = col }
@@ -57,7 +52,3 @@ placed_push g place count words cell word p in_matrix here is below = record {
         subst (λ (x : ℕ). IsWordOf g place other x) (sym last) (subst (λ (c : Position). IsWordOf g place c word) same is))
   ];
 }
-
--- all cells
-pub placed_all : (g : Graph) (place : List Position) (words : List ℕ) → Placed g place 512 words → AreWords g place words
-placed_all g place words p = record { count = p.many; each = λ cell within. p.each cell within (omega (arith, within.row, within.col)) }
