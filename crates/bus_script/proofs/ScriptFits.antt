@@ -11,7 +11,7 @@ use Rattle.std.proofs.lemmas.Map.Entries.{All-lookup}
 use Rattle.std.proofs.lemmas.Map.Keys.{IsDistinct-push}
 use Rattle.std.proofs.Math.Nat.{pow-suc}
 use Rattle.micro_lex.specs.Lines.{lines}
-use Rattle.field_decl.specs.Results.{◌>>=◌}
+use Rattle.field_decl.specs.Results.{◌>>=◌, in_line}
 use Rattle.field_decl.specs.declared.word.Word.{Word}
 use Rattle.field_decl.specs.declared.word.Word.TheVariants as words
 use Rattle.bus_script.specs.declared.buses.Buses.{Buses}
@@ -19,7 +19,6 @@ use Rattle.bus_script.specs.declared.fault.ScriptKind.{ScriptKind}
 use Rattle.bus_script.specs.declared.fault.ScriptKind.TheVariants as kinds
 use Rattle.bus_script.specs.declared.setting.Given.{Given}
 use Rattle.bus_script.specs.declared.setting.Setting.{Setting}
-use Rattle.bus_script.specs.Faults.{in_line}
 use Rattle.bus_script.specs.Script.{Said, Nothing, MemoryWord, Clock, BusScript, script_by, value_at, memory_line, keyword_line, words_said, line_said, lines_said, script_of, idle}
 use Rattle.bus_script.specs.ScriptFits.{AreBusesFor, IsMemoryWordFor, IsScriptFor}
 use Rattle.bus_script.specs.ScriptSteps.{with_line}

@@ -3,9 +3,8 @@ use Rattle.std.proofs.Common.{◌≡◌, ℕ, ◌+◌, List, [], ◌∷◌, ◌+
 use Rattle.std.proofs.lemmas.List.{append-nil, length-append}
 use Rattle.std.proofs.lemmas.List.Elements.{filter_map-append}
 use Rattle.micro_lex.specs.Lines.{lines}
-use Rattle.field_decl.specs.Results.{◌>>=◌}
+use Rattle.field_decl.specs.Results.{◌>>=◌, in_line}
 use Rattle.bus_script.specs.declared.fault.ScriptKind.{ScriptKind}
-use Rattle.bus_script.specs.Faults.{in_line}
 use Rattle.bus_script.specs.Script.{Said, Nothing, MemoryWord, Clock, BusScript, script_by, line_said, lines_said, script_of}
 use Rattle.bus_script.specs.ScriptSteps.{with_line, with_said, after_lines}
 

@@ -1,4 +1,3 @@
-pub mod Faults
 pub mod Words
 pub mod Settings
 pub mod SettingSteps

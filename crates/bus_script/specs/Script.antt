@@ -4,13 +4,12 @@ use Rattle.std.specs.List.{filter_map}
 use Rattle.std.specs.Map.{lookup}
 use Rattle.std.specs.Str.{bytes_eq}
 use Rattle.micro_lex.specs.Lines.{lines}
-use Rattle.field_decl.specs.Results.{◌>>=◌}
+use Rattle.field_decl.specs.Results.{◌>>=◌, in_line}
 use Rattle.field_decl.specs.declared.word.Word.{Word}
 use Rattle.field_decl.specs.declared.word.Word.TheVariants.{Name, Number}
 use Rattle.bus_script.specs.declared.buses.Buses.{Buses}
 use Rattle.bus_script.specs.declared.fault.ScriptKind.{ScriptKind}
 use Rattle.bus_script.specs.declared.fault.ScriptKind.TheVariants as kinds
-use Rattle.bus_script.specs.Faults.{in_line}
 use Rattle.bus_script.specs.Settings.{clock_buses}
 use Rattle.bus_script.specs.Words.{words_of}
 

@@ -1,8 +1,7 @@
 -- The script read line by line, going from what is said to what is said.
 use Rattle.std.specs.Prelude.{ℕ, ◌+◌, List, [], ◌∷◌, ◌++◌, Result, Ok}
-use Rattle.field_decl.specs.Results.{◌>>=◌}
+use Rattle.field_decl.specs.Results.{◌>>=◌, in_line}
 use Rattle.bus_script.specs.declared.fault.ScriptKind.{ScriptKind}
-use Rattle.bus_script.specs.Faults.{in_line}
 use Rattle.bus_script.specs.Script.{Said, Nothing, MemoryWord, Clock, BusScript, line_said}
 
 -- what one line more adds

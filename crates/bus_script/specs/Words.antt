@@ -9,8 +9,8 @@ use Rattle.field_decl.specs.declared.word.Word.{Word}
 use Rattle.field_decl.specs.Words.{word_from}
 use Rattle.bus_script.specs.declared.fault.ScriptKind.{ScriptKind}
 use Rattle.bus_script.specs.declared.fault.ScriptKind.TheVariants as kinds
-use Rattle.bus_script.specs.declared.fault.LineFault.{LineFault}
-use Rattle.bus_script.specs.declared.fault.LineFault.TheVariants as line_faults
+use Rattle.field_decl.specs.declared.refusal.LineRefusal.{LineRefusal}
+use Rattle.field_decl.specs.declared.refusal.LineRefusal.TheVariants as line_faults
 
 -- the refusal of a line for a lexical fault
 abbrev pub kind_of : Cause → ℕ → ScriptKind
@@ -20,7 +20,7 @@ kind_of NumberTooWide column = kinds.NumberTooWide column
 kind_of NameTooLong column = kinds.NameTooLong column
 
 -- the refusal that reports a lexical fault
-abbrev pub lexical_fault : LexFault → LineFault
+abbrev pub lexical_fault : LexFault → LineRefusal ScriptKind
 lexical_fault (lexical.BadByte column) = line_faults.Kind (kinds.BadByte column)
 lexical_fault (lexical.BadNumber column) = line_faults.Kind (kinds.BadNumber column)
 lexical_fault (lexical.NumberTooWide column) = line_faults.Kind (kinds.NumberTooWide column)

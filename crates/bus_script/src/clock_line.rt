@@ -2,7 +2,7 @@
 
 ghost use Rattle.std.specs.Prelude.{◌≡◌, ◌≤◌};
 ghost use Rattle.std.specs.Option.{MatchOption};
-ghost use Rattle.bus_script.specs.Faults.{Gives};
+ghost use Rattle.field_decl.specs.Results.{Gives};
 ghost use Rattle.bus_script.specs.SettingSteps.{ended, IsFirstSetting, nothing_given, given_after};
 ghost use Rattle.bus_script.specs.Settings.{settings_of, clock_buses};
 

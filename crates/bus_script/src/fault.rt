@@ -1,10 +1,6 @@
 //! Why a script is refused.
 
-ghost use Rattle.std.specs.Prelude.{◌≡◌};
-ghost use Rattle.bus_script.specs.Faults.{fault_at};
-ghost use Rattle.bus_script.specs.declared.fault.LineFault.TheVariants.{OutOfMemory};
-
-use std::alloc::{AllocError, AllocFailed};
+use field_decl::{LineRefusal, Refusal};
 
 /// Why a line of a script is refused.
 ///
@@ -33,51 +29,8 @@ pub enum ScriptKind {
     Key,
 }
 
-/// Why one line is not taken: it is refused, or memory is wanting.
-#[derive(Clone, Copy, Debug, PartialEq, Eq)]
-pub(crate) enum LineFault {
-    /// The line is refused.
-    Kind(ScriptKind),
-    /// Memory was refused.
-    OutOfMemory,
-}
+/// Why one line of a script is not taken.
+pub(crate) type LineFault = LineRefusal<ScriptKind>;
 
 /// Why a text gives no script.
-#[derive(Clone, Copy, Debug, PartialEq, Eq)]
-pub enum ScriptFault {
-    /// A line is refused.
-    At {
-        /// The first refused line, from 1.
-        line: u32,
-        /// What is wrong in it.
-        kind: ScriptKind,
-    },
-    /// Memory was refused.
-    OutOfMemory,
-}
-
-impl From<AllocError> for LineFault {
-    ghost from_gives = { λ _ fault. fault ≡ OutOfMemory };
-
-    fn from(_refusal: AllocError) -> LineFault {
-        LineFault::OutOfMemory
-    }
-}
-
-impl<T: Drop> From<AllocFailed<T>> for LineFault {
-    ghost from_gives = { λ _ fault. fault ≡ OutOfMemory };
-
-    fn from(_refusal: AllocFailed<T>) -> LineFault {
-        LineFault::OutOfMemory
-    }
-}
-
-/// The fault, in its line.
-pub(crate) fn fault_at(line: u32, fault: LineFault) -> ScriptFault
-    ensures { result ≡ fault_at line fault }
-{
-    match fault {
-        LineFault::Kind(kind) => ScriptFault::At { line, kind },
-        LineFault::OutOfMemory => ScriptFault::OutOfMemory,
-    }
-}
+pub type ScriptFault = Refusal<ScriptKind>;

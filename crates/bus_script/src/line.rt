@@ -1,7 +1,7 @@
 //! One line of a script, judged after the lines before it.
 
 ghost use Rattle.std.specs.Prelude.{◌≡◌, ◌<◌, ◌≤◌, ◌^◌, length};
-ghost use Rattle.bus_script.specs.Faults.{Gives};
+ghost use Rattle.field_decl.specs.Results.{Gives};
 ghost use Rattle.bus_script.specs.Script.{memory_word_line, memory_line, clock_line, keyword_line, words_said, line_said};
 ghost use Rattle.bus_script.specs.ScriptSteps.{with_said};
 ghost use Rattle.bus_script.specs.Words.{lexical_fault, words_of};

@@ -2,14 +2,15 @@
 
 ghost use Rattle.std.specs.Prelude.{◌≡◌, ◌<◌, ◌≤◌, ◌^◌, [], length, IfOk};
 ghost use Rattle.micro_lex.specs.Lines.{lines};
-ghost use Rattle.bus_script.specs.Faults.{GivesText};
+ghost use Rattle.field_decl.specs.Results.{GivesText};
 ghost use Rattle.bus_script.specs.Script.{script_by, script_of};
 ghost use Rattle.bus_script.specs.ScriptFits.{IsScriptFor};
 ghost use Rattle.bus_script.specs.ScriptSteps.{after_lines};
 
-use crate::fault::{ScriptFault, fault_at};
+use crate::fault::ScriptFault;
 use crate::line::take_line;
 use crate::script::Script;
+use field_decl::fault_at;
 use micro_lex::next_line;
 use std::alloc::Global;
 

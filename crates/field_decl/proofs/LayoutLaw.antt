@@ -6,8 +6,8 @@ use Rattle.micro_lex.specs.Lines.{lines}
 use Rattle.field_decl.specs.declared.directive.Directive.{Directive}
 use Rattle.field_decl.specs.declared.directive.Directive.TheVariants.{Slices, KBus, Field, Prom, Write}
 use Rattle.field_decl.specs.declared.fault.AsmKind.{AsmKind}
-use Rattle.field_decl.specs.declared.fault.DeclFault.{DeclFault}
-use Rattle.field_decl.specs.declared.fault.DeclFault.TheVariants as faults
+use Rattle.field_decl.specs.declared.refusal.Refusal.{Refusal}
+use Rattle.field_decl.specs.declared.refusal.Refusal.TheVariants as faults
 use Rattle.field_decl.specs.declared.word.Word.{Word}
 use Rattle.field_decl.specs.Declaration.{Declaration}
 use Rattle.field_decl.specs.Earlier.{Declared, declared_by, with_directive, first, given_or}
@@ -110,7 +110,7 @@ layout_is bytes = finished (lines_read [] (lines bytes)) ∙ ap (λ (r : Result 
 -- ---- what `read_decl` needs
 
 -- what refuses a line refuses the layout
-pub refused_in : (fault : DeclFault) (bytes : List ℕ) → RefusesAt fault (after_lines (declared_by []) 1 (lines bytes)) → RefusesAt fault (layout_of bytes)
+pub refused_in : (fault : Refusal AsmKind) (bytes : List ℕ) → RefusesAt fault (after_lines (declared_by []) 1 (lines bytes)) → RefusesAt fault (layout_of bytes)
 refused_in faults.OutOfMemory bytes h = tt
 refused_in (faults.At line kind) bytes h = layout_is bytes ∙ ap (λ (r : Result Declared (ℕ × AsmKind)). r >>= finishing) h
 

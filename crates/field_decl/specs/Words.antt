@@ -11,8 +11,8 @@ use Rattle.field_decl.specs.declared.word.Word.{Word}
 use Rattle.field_decl.specs.declared.word.Word.TheVariants as words
 use Rattle.field_decl.specs.declared.fault.AsmKind.{AsmKind}
 use Rattle.field_decl.specs.declared.fault.AsmKind.TheVariants as kinds
-use Rattle.field_decl.specs.declared.fault.LineFault.{LineFault}
-use Rattle.field_decl.specs.declared.fault.LineFault.TheVariants as line_faults
+use Rattle.field_decl.specs.declared.refusal.LineRefusal.{LineRefusal}
+use Rattle.field_decl.specs.declared.refusal.LineRefusal.TheVariants as line_faults
 
 -- a token of this kind with this text
 abbrev pub word_of : TokenKind → List ℕ → Word
@@ -35,7 +35,7 @@ kind_of NumberTooWide column = kinds.NumberTooWide column
 kind_of NameTooLong column = kinds.NameTooLong column
 
 -- the refusal that reports a lexical fault
-abbrev pub lexical_fault : LexFault → LineFault
+abbrev pub lexical_fault : LexFault → LineRefusal AsmKind
 lexical_fault (lexical.BadByte column) = line_faults.Kind (kinds.BadByte column)
 lexical_fault (lexical.BadNumber column) = line_faults.Kind (kinds.BadNumber column)
 lexical_fault (lexical.NumberTooWide column) = line_faults.Kind (kinds.NumberTooWide column)

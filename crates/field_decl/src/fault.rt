@@ -1,9 +1,6 @@
 //! Why a source or a layout is refused.
 
-ghost use Rattle.std.specs.Prelude.{◌≡◌};
-ghost use Rattle.field_decl.specs.declared.fault.LineFault.TheVariants.{OutOfMemory};
-
-use std::alloc::{AllocError, AllocFailed};
+use crate::refusal::{LineRefusal, Refusal};
 
 /// Why a line of a source is refused. A layout has the lines of a source that declare, so the kinds of
 /// both stand here, below the assembler.
@@ -85,41 +82,8 @@ pub enum AsmKind {
     UnknownLabel,
 }
 
-/// Why one line is not taken: it is refused, or memory is wanting.
-#[derive(Clone, Copy, Debug, PartialEq, Eq)]
-pub enum LineFault {
-    /// The line is refused.
-    Kind(AsmKind),
-    /// Memory was refused.
-    OutOfMemory,
-}
+/// Why one line of a layout or of a source is not taken.
+pub type LineFault = LineRefusal<AsmKind>;
 
 /// Why a layout gives no declaration.
-#[derive(Clone, Copy, Debug, PartialEq, Eq)]
-pub enum DeclFault {
-    /// A line is refused.
-    At {
-        /// The first refused line, from 1, or 0 for what the whole text lacks.
-        line: u32,
-        /// What is wrong in it.
-        kind: AsmKind,
-    },
-    /// Memory was refused.
-    OutOfMemory,
-}
-
-impl From<AllocError> for LineFault {
-    ghost from_gives = { λ _ fault. fault ≡ OutOfMemory };
-
-    fn from(_refusal: AllocError) -> LineFault {
-        LineFault::OutOfMemory
-    }
-}
-
-impl<T: Drop> From<AllocFailed<T>> for LineFault {
-    ghost from_gives = { λ _ fault. fault ≡ OutOfMemory };
-
-    fn from(_refusal: AllocFailed<T>) -> LineFault {
-        LineFault::OutOfMemory
-    }
-}
+pub type DeclFault = Refusal<AsmKind>;

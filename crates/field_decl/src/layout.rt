@@ -6,12 +6,13 @@ ghost use Rattle.field_decl.specs.Decls.{declaration_of};
 ghost use Rattle.field_decl.specs.Earlier.{declared_by};
 ghost use Rattle.field_decl.specs.Layout.{line_form, layout_of};
 ghost use Rattle.field_decl.specs.LayoutSteps.{after_line, after_lines};
-ghost use Rattle.field_decl.specs.Results.{Gives, GivesText, fault_at};
+ghost use Rattle.field_decl.specs.Results.{Gives, GivesText};
 
 use crate::decl::Decl;
 use crate::decl_state::DeclState;
 use crate::directive::{Directive, directive_form};
 use crate::fault::{AsmKind, DeclFault, LineFault};
+use crate::refusal::fault_at;
 use crate::word::{Word, line_words};
 use micro_lex::next_line;
 use std::alloc::Global;
@@ -42,16 +43,6 @@ fn take_line(alloc: Global, state: &mut DeclState, line: &[u8]) -> Result<(), Li
         Ok(Some(directive)) => state.take(directive),
         Ok(None) => Ok(()),
         Err(kind) => Err(LineFault::Kind(kind)),
-    }
-}
-
-// The fault, in its line.
-fn fault_at(line: u32, fault: LineFault) -> DeclFault
-    ensures { result ≡ fault_at line fault }
-{
-    match fault {
-        LineFault::Kind(kind) => DeclFault::At { line, kind },
-        LineFault::OutOfMemory => DeclFault::OutOfMemory,
     }
 }
 

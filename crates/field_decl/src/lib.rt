@@ -21,6 +21,7 @@ mod layout;
 mod layout_text;
 mod microword;
 mod name;
+mod refusal;
 mod word;
 
 pub use decl::Decl;
@@ -34,4 +35,5 @@ pub use layout::read_decl;
 pub use layout_text::print_decl;
 pub use microword::{prom_count, word_width};
 pub use name::Name;
+pub use refusal::{LineRefusal, Refusal, fault_at};
 pub use word::{Word, line_words, words_from};

@@ -2,7 +2,7 @@
 
 ghost use Rattle.std.specs.Prelude.{◌≡◌, ◌<◌, ◌^◌, length, map, All, IfOk, IfErr};
 ghost use Rattle.micro_lex.specs.Names.{IsTokenOf};
-ghost use Rattle.field_decl.specs.declared.fault.LineFault.TheVariants as faults;
+ghost use Rattle.field_decl.specs.declared.refusal.LineRefusal.TheVariants as faults;
 ghost use Rattle.field_decl.specs.Results.{Gives};
 ghost use Rattle.field_decl.specs.Words.{word_from, lexical_fault, words_of};
 

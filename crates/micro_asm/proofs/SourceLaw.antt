@@ -5,19 +5,18 @@ use Rattle.std.proofs.lemmas.List.{append-nil, length-append}
 use Rattle.std.proofs.lemmas.List.Elements.{filter_map-append}
 use Rattle.micro_lex.specs.Lines.{lines}
 use Rattle.field_decl.specs.declared.fault.AsmKind.{AsmKind}
-use Rattle.field_decl.specs.declared.fault.LineFault.{LineFault}
-use Rattle.field_decl.specs.declared.fault.LineFault.TheVariants as line_faults
+use Rattle.field_decl.specs.declared.refusal.LineRefusal.{LineRefusal}
+use Rattle.field_decl.specs.declared.refusal.LineRefusal.TheVariants as line_faults
 use Rattle.field_decl.specs.declared.word.Word.{Word}
 use Rattle.field_decl.specs.Earlier.{Declared, declared_by, with_directive, first, given_or}
-use Rattle.field_decl.specs.Results.{◌>>=◌, in_line, Refuses}
+use Rattle.field_decl.specs.Results.{◌>>=◌, in_line, Refuses, RefusesAt, fault_at}
 use Rattle.field_decl.specs.Words.{words_of}
 use Rattle.field_decl.proofs.LayoutLaw.{declared_push}
-use Rattle.micro_asm.specs.declared.fault.AsmFault.{AsmFault}
-use Rattle.micro_asm.specs.declared.fault.AsmFault.TheVariants as faults
+use Rattle.field_decl.specs.declared.refusal.Refusal.{Refusal}
+use Rattle.field_decl.specs.declared.refusal.Refusal.TheVariants as faults
 use Rattle.micro_asm.specs.declared.source_line.SourceLine.{SourceLine}
 use Rattle.micro_asm.specs.Earlier.{Line, Nothing, Declares, Rows, Starts, Pins, Instructs, Facts, facts_of, with_line, directive_in, rows_in, start_in, pin_in, instr_in}
 use Rattle.micro_asm.specs.Judging.{judged, taken}
-use Rattle.micro_asm.specs.Results.{RefusesAt, fault_at}
 use Rattle.micro_asm.specs.Source.{line_read, lines_read, program_of, source_of}
 use Rattle.micro_asm.specs.SourceSteps.{after_source_line, after_line, after_lines}
 use Rattle.micro_asm.specs.SourceLines.{source_line_form}
@@ -93,13 +92,13 @@ source_is bytes = finished (lines_read [] (lines bytes)) ∙ ap (λ (r : Result 
 -- ---- what `assemble` needs
 
 -- what refuses the first of some lines refuses them all
-pub refused_line : (fault : LineFault) (facts : Facts) (number : ℕ) (line : List ℕ) (rest : List (List ℕ)) → Refuses fault (after_line facts number line) → RefusesAt (fault_at number fault) (after_lines facts number (line ∷ rest))
+pub refused_line : (fault : LineRefusal AsmKind) (facts : Facts) (number : ℕ) (line : List ℕ) (rest : List (List ℕ)) → Refuses fault (after_line facts number line) → RefusesAt (fault_at number fault) (after_lines facts number (line ∷ rest))
 unfolding after_lines
 refused_line line_faults.OutOfMemory facts number line rest h = tt
 refused_line (line_faults.Kind kind) facts number line rest h = ap (λ (r : Result Facts AsmKind). in_line number r >>= λ more. after_lines more (number + 1) rest) h
 
 -- what refuses a line refuses the source
-pub refused_in : (fault : AsmFault) (bytes : List ℕ) → RefusesAt fault (after_lines (facts_of []) 1 (lines bytes)) → RefusesAt fault (source_of bytes)
+pub refused_in : (fault : Refusal AsmKind) (bytes : List ℕ) → RefusesAt fault (after_lines (facts_of []) 1 (lines bytes)) → RefusesAt fault (source_of bytes)
 refused_in faults.OutOfMemory bytes h = tt
 refused_in (faults.At line kind) bytes h = source_is bytes ∙ ap (λ (r : Result Facts (ℕ × AsmKind)). r >>= program_of) h
 

@@ -7,5 +7,4 @@ pub mod Earlier
 pub mod Judging
 pub mod Source
 pub mod SourceSteps
-pub mod Results
 pub mod SourceStateView

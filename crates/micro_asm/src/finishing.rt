@@ -3,9 +3,8 @@
 ghost use Rattle.std.specs.Prelude.{◌≡◌, ◌≤◌, None, map, length, unwrap_or, IfErr, IfOk};
 ghost use Rattle.field_decl.specs.Decls.{declaration_of};
 ghost use Rattle.field_decl.specs.Layout.{completed};
-ghost use Rattle.field_decl.specs.Results.{GivesKind};
+ghost use Rattle.field_decl.specs.Results.{GivesKind, GivesText, RefusesAt};
 ghost use Rattle.flow_graph.specs.Graph.{graph_of};
-ghost use Rattle.micro_asm.specs.Results.{GivesSource, RefusesAt};
 ghost use Rattle.micro_asm.specs.Source.{label_place, pin_of, instr_of, target_place, unknown_line, built, program_of};
 
 use crate::accepted_lines::{NamedInstr, PinLine, StartLine};
@@ -152,7 +151,7 @@ impl SourceState {
     // The program of lines that name known labels alone.
     fn built(self, alloc: Global, start: &StartLine) -> Result<Program, AsmFault>
         requires { unknown_line self start.now ≡ None }
-        ensures { GivesSource graph_of result (built self start.now) }
+        ensures { GivesText graph_of result (built self start.now) }
     {
         let (first, pins, instrs) = self.labelled(alloc, start)?;
         let rows = self.rows.unwrap_or(32);
@@ -193,7 +192,7 @@ impl SourceState {
 
     /// The program, or what the whole source lacks, or the first line that names an unknown label.
     pub fn finish(self, alloc: Global) -> Result<Program, AsmFault>
-        ensures { GivesSource graph_of result (program_of self) }
+        ensures { GivesText graph_of result (program_of self) }
     {
         let start = self.known_start()?;
         self.built(alloc, &start)

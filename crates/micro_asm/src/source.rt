@@ -2,17 +2,16 @@
 
 ghost use Rattle.std.specs.Prelude.{◌≡◌, ◌<◌, ◌^◌, [], length};
 ghost use Rattle.micro_lex.specs.Lines.{lines};
-ghost use Rattle.field_decl.specs.Results.{Gives};
+ghost use Rattle.field_decl.specs.Results.{Gives, GivesText};
 ghost use Rattle.flow_graph.specs.Graph.{graph_of};
 ghost use Rattle.micro_asm.specs.Earlier.{facts_of};
-ghost use Rattle.micro_asm.specs.Results.{GivesSource};
 ghost use Rattle.micro_asm.specs.Source.{source_of};
 ghost use Rattle.micro_asm.specs.SourceSteps.{after_line, after_lines};
 
-use crate::fault::{AsmFault, fault_at};
+use crate::fault::AsmFault;
 use crate::source_line_form::source_line_form;
 use crate::source_state::SourceState;
-use field_decl::{LineFault, line_words};
+use field_decl::{LineFault, fault_at, line_words};
 use flow_graph::Program;
 use micro_lex::next_line;
 use std::alloc::Global;
@@ -37,7 +36,7 @@ fn take_line(
 #[tactic(auto, unfolding(crate::specs::SourceSteps::after_lines))]
 fn take_lines(alloc: Global, bytes: &[u8]) -> Result<SourceState, AsmFault>
     requires { length bytes.now < 2 ^ 32 }
-    ensures { GivesSource (λ state. state) result (after_lines (facts_of []) 1 (lines bytes.now)) }
+    ensures { GivesText (λ state. state) result (after_lines (facts_of []) 1 (lines bytes.now)) }
 {
     let mut state = SourceState::new(alloc);
     let mut at = 0;
@@ -59,7 +58,7 @@ fn take_lines(alloc: Global, bytes: &[u8]) -> Result<SourceState, AsmFault>
 /// instruction has is told at the first line that names it.
 pub fn assemble(alloc: Global, bytes: &[u8]) -> Result<Program, AsmFault>
     requires { length bytes.now < 2 ^ 32 }
-    ensures { GivesSource graph_of result (source_of bytes.now) }
+    ensures { GivesText graph_of result (source_of bytes.now) }
 {
     match take_lines(alloc, bytes) {
         Ok(state) => state.finish(alloc),

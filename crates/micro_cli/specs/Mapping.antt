@@ -8,7 +8,7 @@ use Rattle.place_model.specs.MapText.{IsMapText}
 use Rattle.place_model.specs.Pinned.{ArePinnedCells, IsRefusal}
 use Rattle.place_model.specs.declared.faults.MapKind.{MapKind}
 use Rattle.place_model.specs.declared.faults.MapKind.TheVariants.{Unpinned, SameCell, RowBound, StartCell, NoJump}
-use Rattle.place_model.specs.declared.faults.MapFault.TheVariants.{At}
+use Rattle.field_decl.specs.declared.refusal.Refusal.TheVariants.{At}
 use Rattle.replies.specs.Texts.{Refuses, line_reason}
 use Rattle.replies.specs.SourceStep.{HasSource, SourceReply}
 use Rattle.replies.specs.declared.status.Status.{Status}

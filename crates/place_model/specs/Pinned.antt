@@ -6,9 +6,10 @@ use Rattle.flow_graph.specs.declared.instructions.Instr.{Instr}
 use Rattle.flow_graph.specs.declared.pinning.Pin.{Pin}
 use Rattle.flow_graph.specs.Graph.{Graph}
 use Rattle.place_model.specs.Faults.{IsFirstFault}
+use Rattle.place_model.specs.declared.faults.MapKind.{MapKind}
 use Rattle.place_model.specs.declared.faults.MapKind.TheVariants.{Unpinned}
-use Rattle.place_model.specs.declared.faults.MapFault.{MapFault}
-use Rattle.place_model.specs.declared.faults.MapFault.TheVariants.{At, OutOfMemory}
+use Rattle.field_decl.specs.declared.refusal.Refusal.{Refusal}
+use Rattle.field_decl.specs.declared.refusal.Refusal.TheVariants.{At, OutOfMemory}
 
 -- a pin gives the label this cell
 abbrev pub IsPinnedTo : List Pin → ℕ → Position → Type 0
@@ -30,7 +31,7 @@ IsFirstUnpinned g line =
     × ((earlier : ℕ) → earlier < label → (cell : Position) × IsPinnedTo g.pins earlier cell)
 
 -- why a program is refused: a label with no pin comes first; else the first fault of the pinned cells
-abbrev pub IsRefusal : Graph → MapFault → Type 0
+abbrev pub IsRefusal : Graph → Refusal MapKind → Type 0
 IsRefusal g (At line Unpinned) = IsFirstUnpinned g line
 IsRefusal g (At line kind) = (place : List Position) × ArePinnedCells g place × IsFirstFault g place line kind
 IsRefusal g OutOfMemory = Unit {0}

@@ -1,5 +1,7 @@
 //! Why pins give no legal placement.
 
+use field_decl::Refusal;
+
 /// What is wrong at an instruction.
 #[derive(Clone, Copy, Debug, PartialEq, Eq)]
 pub enum MapKind {
@@ -15,16 +17,5 @@ pub enum MapKind {
     NoJump,
 }
 
-/// Why there is no pinned placement.
-#[derive(Clone, Copy, Debug, PartialEq, Eq)]
-pub enum MapFault {
-    /// An instruction is refused.
-    At {
-        /// The line of the first instruction at fault, from 1.
-        line: u32,
-        /// What is wrong at it.
-        kind: MapKind,
-    },
-    /// Memory was refused.
-    OutOfMemory,
-}
+/// Why there is no pinned placement, with the line of the first instruction at fault.
+pub type MapFault = Refusal<MapKind>;
