@@ -4,11 +4,10 @@ use Rattle.std.specs.Prelude.{codes, map}
 use Rattle.std.specs.List.{range_with_len}
 use Rattle.std.proofs.lemmas.Bool.{le-ltb, lt-leb}
 use Rattle.std.proofs.lemmas.List.{append-nil}
-use Rattle.field_decl.specs.Results.{◌>>=◌}
+use Rattle.field_decl.specs.Results.{◌>>=◌, in_line}
 use Rattle.field_decl.specs.declared.word.Word.{Word}
 use Rattle.bus_script.specs.declared.buses.Buses.{Buses}
 use Rattle.bus_script.specs.declared.fault.ScriptKind.{ScriptKind}
-use Rattle.bus_script.specs.Faults.{in_line}
 use Rattle.bus_script.specs.Script.{Said, Clock, BusScript, script_by, keyword_line, words_said, line_said, script_of}
 use Rattle.bus_script.specs.ScriptSteps.{with_said, after_lines}
 use Rattle.bus_script.specs.Settings.{with_setting, given_after}
