@@ -18,7 +18,7 @@ use Rattle.field_decl.specs.Results.{◌>>=◌, unless_refused, in_line, Refuses
 use Rattle.field_decl.specs.Words.{words_of}
 
 -- the first of a list with one element more
-first_push : {X : Type 0} (xs : List X) (y : X) → first (xs ++ y ∷ []) ≡ given_or (first xs) y
+pub first_push : {X : Type 0} (xs : List X) (y : X) → first (xs ++ y ∷ []) ≡ given_or (first xs) y
 first_push [] y = refl
 first_push (x ∷ xs) y = refl
 

@@ -8,10 +8,10 @@ use Rattle.field_decl.specs.declared.fault.AsmKind.{AsmKind}
 use Rattle.field_decl.specs.declared.refusal.LineRefusal.{LineRefusal}
 use Rattle.field_decl.specs.declared.refusal.LineRefusal.TheVariants as line_faults
 use Rattle.field_decl.specs.declared.word.Word.{Word}
-use Rattle.field_decl.specs.Earlier.{Declared, declared_by, with_directive, first, given_or}
+use Rattle.field_decl.specs.Earlier.{Declared, declared_by, with_directive, first}
 use Rattle.field_decl.specs.Results.{◌>>=◌, in_line, Refuses, RefusesAt, fault_at}
 use Rattle.field_decl.specs.Words.{words_of}
-use Rattle.field_decl.proofs.LayoutLaw.{declared_push}
+use Rattle.field_decl.proofs.LayoutLaw.{first_push, declared_push}
 use Rattle.field_decl.specs.declared.refusal.Refusal.{Refusal}
 use Rattle.field_decl.specs.declared.refusal.Refusal.TheVariants as faults
 use Rattle.micro_asm.specs.declared.source_line.SourceLine.{SourceLine}
@@ -20,10 +20,6 @@ use Rattle.micro_asm.specs.Judging.{judged, taken}
 use Rattle.micro_asm.specs.Source.{line_read, lines_read, program_of, source_of}
 use Rattle.micro_asm.specs.SourceSteps.{after_source_line, after_line, after_lines}
 use Rattle.micro_asm.specs.SourceLines.{source_line_form}
-
-first_push : {X : Type 0} (xs : List X) (y : X) → first (xs ++ y ∷ []) ≡ given_or (first xs) y
-first_push [] y = refl
-first_push (x ∷ xs) y = refl
 
 -- one line more
 facts_push : (earlier : List Line) (line : Line) → facts_of (earlier ++ line ∷ []) ≡ with_line (facts_of earlier) line
