@@ -43,7 +43,7 @@ plain_byte : (b : ℕ) → is_run_byte b ≡ true → (is_hash b ≡ false) × (
 plain_byte b w = (grind arith, grind arith)
 
 -- a run at the front gives its token
-run_front : (place : ℕ) (run rest : List ℕ) (kind : TokenKind) → 0 < length run → list_all is_run_byte run ≡ true → prefix_len is_run_byte rest ≡ 0 → run_kind run ≡ Ok kind
+pub run_front : (place : ℕ) (run rest : List ℕ) (kind : TokenKind) → 0 < length run → list_all is_run_byte run ≡ true → prefix_len is_run_byte rest ≡ 0 → run_kind run ≡ Ok kind
     → scan false place (run ++ rest) ≡ with_front (record { kind = kind; start = place; end = place + length run } ∷ []) (scan false (place + length run) rest)
 run_front place [] rest kind some h z reads = absurd (omega arith)
 run_front place (b ∷ bs) rest kind some h z reads =
@@ -63,7 +63,7 @@ no_run_after [] = refl
 no_run_after (run ∷ runs) = refl
 
 -- a space gives nothing
-space_gives_none : (place : ℕ) (bs : List ℕ) → scan false place (32 ∷ bs) ≡ scan false (place + 1) bs
+pub space_gives_none : (place : ℕ) (bs : List ℕ) → scan false place (32 ∷ bs) ≡ scan false (place + 1) bs
 unfolding scan
 space_gives_none place bs = refl
 
@@ -85,7 +85,7 @@ gives_tokens runs all = line_scanned (spaced runs) ∙ scanned 0 runs all
 -- ---- the text of each token
 
 -- the text between the places of a token
-text_of : (line front text rest : List ℕ) (place : ℕ) → line ≡ front ++ (text ++ rest) → place ≡ length front → slice_range line place (place + length text) ≡ text
+pub text_of : (line front text rest : List ℕ) (place : ℕ) → line ≡ front ++ (text ++ rest) → place ≡ length front → slice_range line place (place + length text) ≡ text
 text_of line front text rest place is at =
     let n : place + length text - place ≡ length text = omega arith in
     ap (λ (m : ℕ). take m (drop place line)) n
@@ -105,7 +105,7 @@ each_read {W} f line front place (run ∷ next ∷ runs) is at =
 -- ---- one line
 
 -- a byte that neither ends a line nor is dropped at its end
-abbrev is_unbroken : ℕ → Bool
+abbrev pub is_unbroken : ℕ → Bool
 is_unbroken b = not (eqb b 10) && not (eqb b 13)
 
 -- such a byte is neither LF nor CR
@@ -113,7 +113,7 @@ unbroken : (b : ℕ) → is_unbroken b ≡ true → (eqb b 10 ≡ false) × (eqb
 unbroken b h = let parts = and_parts (not (eqb b 10)) (not (eqb b 13)) h in (not-true (eqb b 10) parts.0, not-true (eqb b 13) parts.1)
 
 -- a line up to its LF is the first piece
-first_piece : (line rest : List ℕ) → list_all is_unbroken line ≡ true → pieces (line ++ 10 ∷ rest) ≡ line ∷ pieces rest
+pub first_piece : (line rest : List ℕ) → list_all is_unbroken line ≡ true → pieces (line ++ 10 ∷ rest) ≡ line ∷ pieces rest
 first_piece [] rest h = refl
 first_piece (b ∷ line) rest h =
     let parts = and_parts (is_unbroken b) (list_all is_unbroken line) h in
@@ -121,13 +121,13 @@ first_piece (b ∷ line) rest h =
     rw plain.0 (ap (onto_first b) (first_piece line rest parts.1))
 
 -- a line without a CR stays
-no_cr : (line : List ℕ) → list_all is_unbroken line ≡ true → without_cr line ≡ line
+pub no_cr : (line : List ℕ) → list_all is_unbroken line ≡ true → without_cr line ≡ line
 no_cr [] h = refl
 no_cr (b ∷ []) h = let plain = unbroken b (and_parts (is_unbroken b) true h).0 in rw plain.1 refl
 no_cr (b ∷ c ∷ line) h = ap (λ (l : List ℕ). b ∷ l) (no_cr (c ∷ line) (and_parts (is_unbroken b) (list_all is_unbroken (c ∷ line)) h).1)
 
 -- a run has no LF and no CR
-run_unbroken : (run : List ℕ) → list_all is_run_byte run ≡ true → list_all is_unbroken run ≡ true
+pub run_unbroken : (run : List ℕ) → list_all is_run_byte run ≡ true → list_all is_unbroken run ≡ true
 run_unbroken [] h = refl
 run_unbroken (b ∷ bs) h =
     let both = and_parts (is_run_byte b) (list_all is_run_byte bs) h in
@@ -137,7 +137,7 @@ run_unbroken (b ∷ bs) h =
     byte b w = grind arith
 
 -- nor have two texts that have none
-both_unbroken : (xs ys : List ℕ) → list_all is_unbroken xs ≡ true → list_all is_unbroken ys ≡ true → list_all is_unbroken (xs ++ ys) ≡ true
+pub both_unbroken : (xs ys : List ℕ) → list_all is_unbroken xs ≡ true → list_all is_unbroken ys ≡ true → list_all is_unbroken (xs ++ ys) ≡ true
 both_unbroken xs ys hx hy = list_all-append is_unbroken xs ys ∙ and_from (list_all is_unbroken xs) (list_all is_unbroken ys) hx hy
 
 -- nor have runs with spaces

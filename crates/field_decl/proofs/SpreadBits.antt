@@ -43,7 +43,7 @@ gathered_below s zero m = omega arith
 gathered_below s (suc n) m = omega (arith, pow-suc 2 n, gathered_below s n (m / 2 ^ s))
 
 -- the new word is below the new power
-bound : (x v q p : ℕ) → x < p → v < q → x * q + v < q * p
+pub bound : (x v q p : ℕ) → x < p → v < q → x * q + v < q * p
 bound x v q p h g =
     let e : suc x * q ≤ p * q = mul-le-mul_right q h in
     omega arith

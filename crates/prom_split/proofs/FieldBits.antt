@@ -8,12 +8,13 @@ use Rattle.std.proofs.lemmas.List.{drop_all, append-nil, length-map, length-take
 use Rattle.std.proofs.lemmas.List.Sums.{sum_by-cons}
 use Rattle.std.proofs.lemmas.Option.{slice_get_within, slice_get-get_or, get_or_from_slice_get}
 use Rattle.std.proofs.lemmas.Nat.{pow-add}
-use Rattle.std.proofs.Math.Nat.{mod-eq_of_lt, pow-le-pow_right, mul-le-mul_right}
+use Rattle.std.proofs.Math.Nat.{mod-eq_of_lt, pow-le-pow_right}
 use Rattle.field_decl.specs.declared.field.Field.{Field}
 use Rattle.field_decl.specs.Fields.{is_sized, widths}
 use Rattle.flow_graph.specs.Microwords.{AreValues}
 use Rattle.flow_graph.specs.Order.{defaults_of}
 use Rattle.field_decl.proofs.FieldLemmas.{few_fields}
+use Rattle.field_decl.proofs.SpreadBits.{bound}
 use Rattle.prom_split.specs.Parts.{joined, taken_apart}
 
 -- the rest of a list begins with the element at its place
@@ -47,12 +48,6 @@ sized_at (f ∷ fields) (suc place) field h at = sized_at fields place field (an
 pub record Turned (fields : List Field) (values : List ℕ) (place number : ℕ) : Type 0 where
   pub value : number ≡ joined (drop place fields) (drop place values)
   pub below : number < 2 ^ widths (drop place fields)
-
--- a number with a digit below it is below the product of their powers
-bound : (x v q p : ℕ) → x < p → v < q → x * q + v < q * p
-bound x v q p h g =
-    let e : suc x * q ≤ p * q = mul-le-mul_right q h in
-    omega arith
 
 widths_at : (fields : List Field) (place : ℕ) (field : Field) → slice_get fields place ≡ Some field → widths (drop place fields) ≡ field.width + widths (drop (suc place) fields)
 widths_at fields place field at = ap widths (drop_at fields place field at) ∙ sum_by-cons (λ (f : Field). f.width) field (drop (suc place) fields)

@@ -1,11 +1,12 @@
 -- A word's parts are those that it was made of.
 use Rattle.std.proofs.Common.{ℕ, suc, ◌+◌, ◌*◌, ◌/◌, ◌%◌, ◌^◌, ◌<◌, ◌≡◌, refl, ◌∙◌, arith, List, [], ◌∷◌}
-use Rattle.std.proofs.Math.Nat.{div-div-eq-div-mul, add-mul-mod_self_left, add-mul-div_left, mod-eq_of_lt, div-eq_of_lt}
+use Rattle.std.proofs.Math.Nat.{div-div-eq-div-mul, add-mul-mod_self_left, mod-eq_of_lt}
 use Rattle.std.proofs.lemmas.Nat.{pow-add}
 use Rattle.mcu_jumps.specs.JumpWord.{ac_of}
 use Rattle.mcu_chip.specs.FlagWord.{fc_of}
 use Rattle.field_decl.specs.Declaration.{Declaration}
 use Rattle.field_decl.specs.declared.field.Field.{Field}
+use Rattle.field_decl.proofs.SpreadBits.{high_of}
 use Rattle.flow_graph.specs.Microwords.{AreValues}
 use Rattle.prom_split.specs.Parts.{FitParts, joined, taken_apart, parts_of, word_by}
 use Rattle.prom_split.specs.declared.word_parts.WordParts.{WordParts}
@@ -14,9 +15,6 @@ use Rattle.prom_split.proofs.CodesBack.{ac_below, fc_below, jump_back, ctl_back}
 -- a digit below w, and what stands above it
 low_of : (a w r : ℕ) → a < w → (a + w * r) % w ≡ a
 low_of a w r h = add-mul-mod_self_left a w r ∙ mod-eq_of_lt h
-
-high_of : (a w r : ℕ) → a < w → (a + w * r) / w ≡ r
-high_of a w r h = let pos : 0 < w = omega arith in omega (arith, add-mul-div_left a r pos, div-eq_of_lt h)
 
 -- the values without the first
 rest_held : (field : Field) (fields : List Field) (value : ℕ) (values : List ℕ) → AreValues (field ∷ fields) (value ∷ values) → AreValues fields values

@@ -8,6 +8,7 @@ use Rattle.std.proofs.Math.Nat.{mod-lt}
 use Rattle.bpnf.specs.Frames.{letter, letters_of, frame}
 use Rattle.bpnf.specs.Canonical.{frames_of, image_text}
 use Rattle.bpnf.specs.Image.{Image, IsWidth}
+use Rattle.bpnf.proofs.LetterLaws.{length-letters_of}
 use Rattle.field_decl.specs.Declaration.{Declaration}
 use Rattle.prom_split.specs.Parts.{width_of}
 use Rattle.prom_split.specs.Images.{AreImages, words_in}
@@ -26,11 +27,6 @@ get_right (x ∷ xs) ys i =
     let e : length (x ∷ xs) + i ≡ suc (length xs + i) = omega arith in
     ap (slice_get (x ∷ (xs ++ ys))) e ∙ get_right xs ys i
 
-letters_length : (n word : ℕ) → length (letters_of n word) ≡ n
-unfolding letters_of
-letters_length zero word = refl
-letters_length (suc n) word = omega (arith, letters_length n word)
-
 -- the letter of a bit, the highest bit first
 letter_at : (n word bit : ℕ) → bit < n → slice_get (letters_of n word) (n - 1 - bit) ≡ Some (letter (bit_at word bit))
 unfolding letters_of
@@ -48,7 +44,7 @@ letter_at (suc n) word bit lt = elim (cases_lt bit n) [
 -- the letter in its frame
 letter_in_frame : (bits word bit : ℕ) → bit < bits → slice_get (frame bits word ++ 10 ∷ []) (1 + (bits - 1 - bit)) ≡ Some (letter (bit_at word bit))
 letter_in_frame bits word bit lt =
-    let within : bits - 1 - bit < length (letters_of bits word) = omega (arith, letters_length bits word) in
+    let within : bits - 1 - bit < length (letters_of bits word) = omega (arith, length-letters_of bits word) in
     let inner : slice_get ((letters_of bits word ++ 70 ∷ []) ++ 10 ∷ []) (bits - 1 - bit) ≡ slice_get (letters_of bits word) (bits - 1 - bit) =
     get_left (letters_of bits word ++ 70 ∷ []) (10 ∷ []) (bits - 1 - bit) (more (letters_of bits word) (bits - 1 - bit) within) ∙ get_left (letters_of bits word) (70 ∷ []) (bits - 1 - bit) within in
     let place : 1 + (bits - 1 - bit) ≡ suc (bits - 1 - bit) = omega arith in
@@ -60,7 +56,7 @@ letter_in_frame bits word bit lt =
     more (x ∷ xs) (suc i) lt = omega (arith, more xs i (omega arith))
 
 frame_length : (bits word : ℕ) → length (frame bits word ++ 10 ∷ []) ≡ bits + 3
-frame_length bits word = omega (arith, two (letters_of bits word) 70 10, letters_length bits word)
+frame_length bits word = omega (arith, two (letters_of bits word) 70 10, length-letters_of bits word)
   where
     two : (xs : List ℕ) (a b : ℕ) → length ((xs ++ a ∷ []) ++ b ∷ []) ≡ length xs + 2
     two [] a b = refl

@@ -1,14 +1,9 @@
 -- A word as the sum of its parts.
 use Rattle.std.proofs.Common.{ℕ, zero, suc, ◌+◌, ◌*◌, ◌%◌, ◌^◌, ◌<◌, ◌≤◌, ◌≡◌, refl, ap, ◌∙◌, arith}
 use Rattle.std.proofs.lemmas.Nat.{pow_pos, pow-add}
-use Rattle.std.proofs.Math.Nat.{mod-eq_of_lt, pow-le-pow_right, mul-le-mul_right, div-eq_of_lt}
+use Rattle.std.proofs.Math.Nat.{mod-eq_of_lt, pow-le-pow_right, div-eq_of_lt}
 use Rattle.field_decl.specs.KBits.{gathered_bits}
-
--- a number with a digit below it is below the product of their powers
-bound : (x v q p : ℕ) → x < p → v < q → x * q + v < q * p
-bound x v q p h g =
-    let e : suc x * q ≤ p * q = mul-le-mul_right q h in
-    omega arith
+use Rattle.field_decl.proofs.SpreadBits.{bound}
 
 -- the K bits below the fields
 pub record AboveFits (values kbits kbus wide : ℕ) : Type 0 where

@@ -1,16 +1,12 @@
 -- A text of lines of pieces has just those lines, and each is read as its words.
-use Rattle.std.proofs.Common.{◌≡◌, ℕ, Bool, true, false, not, ◌&&◌, List, [], ◌∷◌, ◌++◌, Result, Ok, refl, ap, ◌∙◌, append_assoc, arith, eqb}
+use Rattle.std.proofs.Common.{◌≡◌, ℕ, true, List, [], ◌∷◌, ◌++◌, Result, Ok, refl, ap, ◌∙◌, append_assoc}
 use Rattle.std.specs.List.{list_all}
 use Rattle.std.specs.Prelude.{map, decimal}
-use Rattle.std.specs.Cmp.Derive.{both_true}
-use Rattle.std.proofs.lemmas.List.Folds.{list_all-append}
-use Rattle.std.proofs.lemmas.Bool.{and_parts, and_from, not-true}
-use Rattle.micro_lex.specs.Alphabet.{is_run_byte}
-use Rattle.micro_lex.specs.Lines.{pieces, onto_first, without_cr, lines}
+use Rattle.micro_lex.specs.Lines.{pieces, without_cr, lines}
 use Rattle.field_decl.specs.declared.fault.AsmKind.{AsmKind}
 use Rattle.field_decl.specs.declared.word.Word.{Word}
 use Rattle.field_decl.specs.Words as sources
-use Rattle.field_decl.proofs.SpacedRuns.{number_is_run}
+use Rattle.field_decl.proofs.SpacedRuns.{is_unbroken, first_piece, no_cr, run_unbroken, both_unbroken, number_is_run}
 use Rattle.bus_script.specs.declared.fault.ScriptKind.{ScriptKind}
 use Rattle.bus_script.specs.Words as scripts
 use Rattle.text_pieces.specs.Pieces.{Piece, Space, Colon, Bar, Equals, Minus, Name, Number, pieces_text, words_in, AreReadable}
@@ -34,43 +30,7 @@ script_words all h = ap (scripts.words_with (pieces_text all)) (gives_tokens all
 
 -- ---- the lines of a text
 
--- a byte that neither ends a line nor is dropped at its end
-abbrev is_unbroken : ℕ → Bool
-is_unbroken b = not (eqb b 10) && not (eqb b 13)
-
--- such a byte is neither LF nor CR
-unbroken : (b : ℕ) → is_unbroken b ≡ true → (eqb b 10 ≡ false) × (eqb b 13 ≡ false)
-unbroken b h = let parts = and_parts (not (eqb b 10)) (not (eqb b 13)) h in (not-true (eqb b 10) parts.0, not-true (eqb b 13) parts.1)
-
--- a line up to its LF is the first piece of the text
-first_piece : (line rest : List ℕ) → list_all is_unbroken line ≡ true → pieces (line ++ 10 ∷ rest) ≡ line ∷ pieces rest
-first_piece [] rest h = refl
-first_piece (b ∷ line) rest h =
-    let parts = and_parts (is_unbroken b) (list_all is_unbroken line) h in
-    let plain = unbroken b parts.0 in
-    rw plain.0 (ap (onto_first b) (first_piece line rest parts.1))
-
--- a line without a CR stays
-no_cr : (line : List ℕ) → list_all is_unbroken line ≡ true → without_cr line ≡ line
-no_cr [] h = refl
-no_cr (b ∷ []) h = let plain = unbroken b (and_parts (is_unbroken b) true h).0 in rw plain.1 refl
-no_cr (b ∷ c ∷ line) h = ap (λ (l : List ℕ). b ∷ l) (no_cr (c ∷ line) (and_parts (is_unbroken b) (list_all is_unbroken (c ∷ line)) h).1)
-
--- a run has no LF and no CR
-run_unbroken : (run : List ℕ) → list_all is_run_byte run ≡ true → list_all is_unbroken run ≡ true
-run_unbroken [] h = refl
-run_unbroken (b ∷ bs) h =
-    let both = and_parts (is_run_byte b) (list_all is_run_byte bs) h in
-    both_true (byte b both.0) (run_unbroken bs both.1)
-  where
-    byte : (b : ℕ) → is_run_byte b ≡ true → is_unbroken b ≡ true
-    byte b w = grind arith
-
--- nor have two texts that have none
-both_unbroken : (xs ys : List ℕ) → list_all is_unbroken xs ≡ true → list_all is_unbroken ys ≡ true → list_all is_unbroken (xs ++ ys) ≡ true
-both_unbroken xs ys hx hy = list_all-append is_unbroken xs ys ∙ and_from (list_all is_unbroken xs) (list_all is_unbroken ys) hx hy
-
--- nor have pieces
+-- pieces have no LF and no CR
 pieces_unbroken : (all : List Piece) → AreReadable all → list_all is_unbroken (pieces_text all) ≡ true
 pieces_unbroken [] h = refl
 pieces_unbroken (Space ∷ rest) h = pieces_unbroken rest h

@@ -1,57 +1,20 @@
 -- A line of pieces gives their tokens, each with its text.
-use Rattle.std.proofs.Common.{◌≡◌, ℕ, ◌+◌, ◌-◌, ◌<◌, Bool, true, false, List, [], ◌∷◌, ◌++◌, length, take, drop, Option, Result, Ok, refl, sym, ap, ◌∙◌, append_assoc, arith}
-use Rattle.std.specs.List.{prefix_len, list_all}
-use Rattle.std.specs.Prelude.{slice_range, map, take_while, decimal}
-use Rattle.std.proofs.Math.Seq.{take-append_seam, drop-append_seam}
+use Rattle.std.proofs.Common.{◌≡◌, ℕ, ◌+◌, ◌-◌, false, List, [], ◌∷◌, ◌++◌, length, Ok, refl, sym, ap, ◌∙◌, append_assoc, arith}
+use Rattle.std.specs.List.{prefix_len}
+use Rattle.std.specs.Prelude.{map, decimal}
 use Rattle.std.proofs.lemmas.List.{length-append}
-use Rattle.std.proofs.lemmas.Bool.{and_parts}
 use Rattle.micro_lex.specs.declared.token.Token.{Token}
-use Rattle.micro_lex.specs.declared.token.TokenKind.{TokenKind}
 use Rattle.micro_lex.specs.declared.token.TokenKind.TheVariants as tokens
-use Rattle.micro_lex.specs.Alphabet.{is_run_byte, is_space, is_hash}
-use Rattle.micro_lex.specs.Faults.{Cause, in_column}
-use Rattle.micro_lex.specs.Runs.{run_kind}
-use Rattle.micro_lex.specs.Tokens.{spanned, with_front, with_reading, tokens_of}
-use Rattle.micro_lex.proofs.Scan.{scan, scan_end, scan_begins, past_first_run, line_scanned}
+use Rattle.micro_lex.specs.Alphabet.{is_run_byte}
+use Rattle.micro_lex.specs.Tokens.{with_front, tokens_of}
+use Rattle.micro_lex.proofs.Scan.{scan, scan_end, line_scanned}
 use Rattle.micro_lex.proofs.Steps.{begins_run}
 use Rattle.field_decl.specs.declared.word.Word.{Word}
 use Rattle.field_decl.specs.declared.word.Word.TheVariants as words
 use Rattle.field_decl.specs.Words.{word_from}
-use Rattle.field_decl.proofs.SpacedRuns.{number_is_run, name_is_run}
+use Rattle.field_decl.proofs.SpacedRuns.{run_front, space_gives_none, text_of, number_is_run, name_is_run}
 use Rattle.text_pieces.specs.Pieces as pieces
-use Rattle.text_pieces.specs.Pieces.{Piece, Space, Colon, Bar, Equals, Minus, Name, Number, piece_text, pieces_text, words_in, AreReadable}
-
--- ---- a run at the front of some bytes
-
--- a run goes as far as it is written, where no byte of a run follows
-run_len : (run rest : List ℕ) → list_all is_run_byte run ≡ true → prefix_len is_run_byte rest ≡ 0 → prefix_len is_run_byte (run ++ rest) ≡ length run
-run_len [] rest h z = z
-run_len (b ∷ bs) rest h z =
-    let both = and_parts (is_run_byte b) (list_all is_run_byte bs) h in
-    rw both.0 (let more = run_len bs rest both.1 z in omega (arith, more))
-
--- and is taken whole
-run_taken : (run rest : List ℕ) → list_all is_run_byte run ≡ true → prefix_len is_run_byte rest ≡ 0 → take_while is_run_byte (run ++ rest) ≡ run
-run_taken run rest h z = ap (λ (n : ℕ). take n (run ++ rest)) (run_len run rest h z) ∙ take-append_seam run rest
-
--- a byte of a run is no space and begins no comment
-plain_byte : (b : ℕ) → is_run_byte b ≡ true → (is_hash b ≡ false) × (is_space b ≡ false)
-plain_byte b w = (grind arith, grind arith)
-
--- a run at the front gives its token
-run_front : (place : ℕ) (run rest : List ℕ) (kind : TokenKind) → 0 < length run → list_all is_run_byte run ≡ true → prefix_len is_run_byte rest ≡ 0 → run_kind run ≡ Ok kind
-    → scan false place (run ++ rest) ≡ with_front (record { kind = kind; start = place; end = place + length run } ∷ []) (scan false (place + length run) rest)
-run_front place [] rest kind some h z reads = absurd (omega arith)
-run_front place (b ∷ bs) rest kind some h z reads =
-    let both = and_parts (is_run_byte b) (list_all is_run_byte bs) h in
-    let plain = plain_byte b both.0 in
-    let run : List ℕ = take_while is_run_byte (b ∷ bs ++ rest) in
-    scan_begins place b (bs ++ rest) plain.0
-    ∙ ap (λ (r : Result (Option Token) Cause). with_reading (in_column (place + 1) r) (scan (is_run_byte b) (place + 1) (bs ++ rest))) (begins_run place b (bs ++ rest) plain.1 both.0)
-    ∙ ap (with_reading (in_column (place + 1) (spanned place (place + length run) (run_kind run)))) (ap (λ (x : Bool). scan x (place + 1) (bs ++ rest)) both.0 ∙ past_first_run place b (bs ++ rest) both.0)
-    ∙ ap (λ (r : List ℕ). with_reading (in_column (place + 1) (spanned place (place + length r) (run_kind r))) (scan false (place + length r) (drop (length r) (b ∷ bs ++ rest)))) (run_taken (b ∷ bs) rest h z)
-    ∙ ap (λ (k : Result TokenKind Cause). with_reading (in_column (place + 1) (spanned place (place + length (b ∷ bs)) k)) (scan false (place + length (b ∷ bs)) (drop (length (b ∷ bs)) (b ∷ bs ++ rest)))) reads
-    ∙ ap (λ (xs : List ℕ). with_front (record { kind = kind; start = place; end = place + length (b ∷ bs) } ∷ []) (scan false (place + length (b ∷ bs)) xs)) (drop-append_seam (b ∷ bs) rest)
+use Rattle.text_pieces.specs.Pieces.{Piece, Space, Colon, Bar, Equals, Minus, Name, Number, pieces_text, words_in, AreReadable}
 
 -- ---- the tokens of pieces
 
@@ -78,11 +41,7 @@ no_run_after (Minus ∷ rest) h = refl
 no_run_after (Name text ∷ rest) h = absurd cc
 no_run_after (Number number ∷ rest) h = absurd cc
 
--- what a space and each mark give
-space_scanned : (place : ℕ) (bs : List ℕ) → scan false place (32 ∷ bs) ≡ scan false (place + 1) bs
-unfolding scan
-space_scanned place bs = refl
-
+-- what each mark gives
 colon_scanned : (place : ℕ) (bs : List ℕ) → scan false place (58 ∷ bs) ≡ with_front (record { kind = tokens.Colon; start = place; end = place + 1 } ∷ []) (scan false (place + 1) bs)
 unfolding scan
 colon_scanned place bs = refl
@@ -102,7 +61,7 @@ minus_scanned place bs = refl
 -- the tokens of pieces, from a place on
 scanned : (place : ℕ) (all : List Piece) → AreReadable all → scan false place (pieces_text all) ≡ Ok (tokens_at place all)
 scanned place [] h = scan_end false place
-scanned place (Space ∷ rest) h = space_scanned place (pieces_text rest) ∙ scanned (place + 1) rest h
+scanned place (Space ∷ rest) h = space_gives_none place (pieces_text rest) ∙ scanned (place + 1) rest h
 scanned place (Colon ∷ rest) h = colon_scanned place (pieces_text rest) ∙ ap (with_front (record { kind = tokens.Colon; start = place; end = place + 1 } ∷ [])) (scanned (place + 1) rest h)
 scanned place (Bar ∷ rest) h = bar_scanned place (pieces_text rest) ∙ ap (with_front (record { kind = tokens.Bar; start = place; end = place + 1 } ∷ [])) (scanned (place + 1) rest h)
 scanned place (Equals ∷ rest) h = equals_scanned place (pieces_text rest) ∙ ap (with_front (record { kind = tokens.Equals; start = place; end = place + 1 } ∷ [])) (scanned (place + 1) rest h)
@@ -121,14 +80,6 @@ pub gives_tokens : (all : List Piece) → AreReadable all → tokens_of (pieces_
 gives_tokens all h = line_scanned (pieces_text all) ∙ scanned 0 all h
 
 -- ---- the words of the tokens
-
--- the text between the places of a token
-text_of : (line front text rest : List ℕ) (place : ℕ) → line ≡ front ++ (text ++ rest) → place ≡ length front → slice_range line place (place + length text) ≡ text
-text_of line front text rest place is at =
-    let n : place + length text - place ≡ length text = omega arith in
-    ap (λ (m : ℕ). take m (drop place line)) n
-    ∙ ap (λ (xs : List ℕ). take (length text) xs) (ap (λ (xs : List ℕ). drop place xs) is ∙ ap (λ (k : ℕ). drop k (front ++ (text ++ rest))) at ∙ drop-append_seam front (text ++ rest))
-    ∙ take-append_seam text rest
 
 -- a piece more in front
 longer : (line front text rest : List ℕ) → line ≡ front ++ (text ++ rest) → line ≡ (front ++ text) ++ rest
