@@ -18,6 +18,7 @@ class Answer:
     megabytes: float
     conflicts: int | None = None  # None where it is not told
     check_seconds: float | None = None  # of a refutation
+    reading: float = 0.0  # of the seconds, those that a peer says it took to read the clauses
 
     def decided(self):
         """Whether it is a yes or a no."""
@@ -75,7 +76,8 @@ class Peer:
             verdict = TIMED_OUT if run.timed_out() or run.seconds > 0.9 * limit else SPENT
         # CaDiCaL is silent of conflicts where there was none.
         found = int(told[-1]) if told else 0 if verdict in (YES, NO) else None
-        return Answer(verdict, run.seconds, run.megabytes, found)
+        read = re.search(r"^(?:c parsed .* in|\|  Parse time:) +([0-9.]+) s", run.output, re.MULTILINE)
+        return Answer(verdict, run.seconds, run.megabytes, found, reading=float(read[1]) if read else 0.0)
 
 
 # Only CaDiCaL takes a budget of conflicts.

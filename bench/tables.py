@@ -62,7 +62,7 @@ def sum_line(name, rows, solvers):
         others = sum(answer.seconds for _, answer in pairs)
         decided = sum(row.answers[peer].decided() for row in rows)
         cells += [str(decided), str(len(pairs)), number(seconds, 2), number(others, 2),
-                  number(seconds / others, 2) if others else ""]
+                  number(seconds / others, 2) if others else "", number(sum(answer.reading for _, answer in pairs), 2)]
     return cells
 
 
@@ -71,7 +71,7 @@ def sum_table(rows, solvers):
     own, *peers = solvers
     head = ["family", "sources", "decided", "most conflicts", "most MB"]
     for peer in peers:
-        head += [f"{peer} decides", "both", f"{own} s", f"{peer} s", "ratio"]
+        head += [f"{peer} decides", "both", f"{own} s", f"{peer} s", "ratio", "its reading s"]
     groups = {family: [row for row in rows if row.family == family] for family in dict.fromkeys(row.family for row in rows)}
     groups["realistic"] = [row for row in rows if row.family in REALISTIC]
     groups["all"] = rows

@@ -53,18 +53,20 @@ class Solving(unittest.TestCase):
     def test_peers(self):
         for said, status, verdict, conflicts in (("conflicts             : 12   (3 /sec)", 10, "placed", 12),
                                                  ("c conflicts:   1234     9.5 per second", 20, "refuted", 1234),
-                                                 ("c UNKNOWN", 0, "undecided", None), ("", 20, "refuted", 0)):
+                                                 ("c parsed 9 clauses in 0.50 seconds process time", 20, "refuted", 0),
+                                                 ("|  Parse time:           0.50 s         |", 0, "undecided", None)):
             with tempfile.TemporaryDirectory() as folder:
                 peer = Peer(script(folder, "peer", f"#!/bin/sh\necho '{said}'\nexit {status}\n"), [])
                 answer = peer.solve(folder, 5, 9)
             self.assertEqual((answer.verdict, answer.conflicts), (verdict, conflicts))
+            self.assertEqual(answer.reading, 0.5 if "arse" in said else 0.0)
 
 
 class Tables(unittest.TestCase):
     """What the tables say."""
 
     ROWS = [
-        Row("tests", "one", 2, {"own": Answer("placed", 1.0, 10), "peer": Answer("placed", 2.0, 10, 5)}),
+        Row("tests", "one", 2, {"own": Answer("placed", 1.0, 10), "peer": Answer("placed", 2.0, 10, 5, reading=0.25)}),
         Row("wild", "two", 3, {"own": Answer("refuted", 3.0, 20, 7, 0.5), "peer": Answer("refuted", 2.0, 10, 5)}),
         Row("wild", "three", 4, {"own": Answer("time", 9.0, 20), "peer": Answer("refuted", 2.0, 10, 5)}),
     ]
@@ -77,7 +79,7 @@ class Tables(unittest.TestCase):
     def test_sums(self):
         table = sum_table(self.ROWS, ["own", "peer"])
         self.assertEqual([line[0] for line in table[1:]], ["tests", "wild", "realistic", "all"])
-        self.assertEqual(table[-1], ["all", "3", "2", "7", "20", "3", "2", "4.00", "4.00", "1.00"])
+        self.assertEqual(table[-1], ["all", "3", "2", "7", "20", "3", "2", "4.00", "4.00", "1.00", "0.25"])
 
     def test_texts(self):
         self.assertEqual(plain([["a", "b"], ["ccc", "d"]]), "a    b\nccc  d\n")
