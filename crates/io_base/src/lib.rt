@@ -2,9 +2,10 @@
 //! Layer: outside.
 //!
 //! Shelf and sink say exactly what their calls do. A call answers `Failed` only where its object's count of faults
-//! rose in that call, and a shelf's last failed name is then the name of that call. A loaded file is the whole file
-//! of a shelf that tells its files, and just its bytes were taken; a file is refused as absent or too long exactly
-//! where a read said so or more bytes than the limit were taken. `put_all` adds the whole piece to a sink.
+//! rose in that call, and a shelf's last failed name is then the name of that call; a call that does not fail leaves
+//! both. A loaded file is the whole file of a shelf that tells its files, and just its bytes were taken; a file is
+//! refused as absent or too long exactly where a read said so or more bytes than the limit were taken. `put_all` adds
+//! the whole piece to a sink, and tries no failed write again.
 //!
 //! A shelf *tells its files* where contracts see their bytes, and is *honest* where `create` and `append` do to a
 //! file what they say. `MemShelf`, in memory, does both. Of `FileShelf`, the system's files, neither is assumed.

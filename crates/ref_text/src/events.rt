@@ -5,7 +5,7 @@ use crate::Why;
 /// What a piece of the text brought.
 #[derive(Clone, Copy, PartialEq, Eq, Debug)]
 pub enum Event {
-    /// The piece is used up inside a line.
+    /// The piece is used up, and no line ended in what was left of it; so too of an empty piece.
     More,
     /// A line was read; `LineReader::clause` and `hints` give it until the next call of `feed`.
     Line,
