@@ -1,12 +1,14 @@
 -- The list of clauses is that of its blocks.
-use Rattle.std.proofs.Common.{◌≡◌, ℕ, ℤ, ◌+◌, ◌<◌, ◌≤◌, List, ◌++◌, length, ap, subst, ◌∙◌}
+use Rattle.std.proofs.Common.{◌≡◌, ℕ, ℤ, zero, suc, ◌+◌, ◌-◌, ◌<◌, ◌≤◌, List, [], ◌∷◌, ◌++◌, length, get_or, ap, sym, subst, ◌∙◌, arith, below_more, refl}
+use Rattle.std.proofs.lemmas.List.{get_or_append_left}
 use Rattle.std.proofs.lemmas.List.{append_assoc}
 use Rattle.flow_graph.specs.Graph.{Graph}
 use Rattle.placement_clauses.specs.Upto.{upto, joined, at_place, each_of}
 use Rattle.placement_clauses.specs.Clauses.{cell_clauses, apart_from_earlier, at_clauses, pin_clauses, bound_clauses, instr_clauses, instr_traps, cell_class, apart_class, flow_class, trap_class, clauses_of}
-use Rattle.placement_clauses.proofs.UptoLemmas.{length-upto-le}
+use Rattle.placement_clauses.proofs.UptoLemmas.{upto-none, length-upto-le}
+use Rattle.placement_clauses.proofs.LengthLemmas.{length-more}
 use Rattle.placement_clauses.proofs.JoinedLemmas.{upto-joined, upto-one}
-use Rattle.clause_encode.specs.Blocks.{instr_block, given_block, numbered_block, block_count}
+use Rattle.clause_encode.specs.Blocks.{instr_block, given_block, numbered_block, block_count, AreEnds}
 
 -- the blocks one after another are the list
 pub blocks_are_clauses : (g : Graph) → upto (block_count g) (numbered_block g) ≡ clauses_of g
@@ -45,3 +47,47 @@ front_fits g k lt =
 -- all blocks are as long as all clauses
 pub whole_fits : (g : Graph) (k : ℕ) → k ≡ block_count g → length (upto k (numbered_block g)) ≡ length (clauses_of g)
 whole_fits g k e = ap (λ m. length (upto m (numbered_block g))) e ∙ ap length (blocks_are_clauses g)
+
+-- the end of one block more
+pub ends_more : (g : Graph) (before after : List ℕ) (n end : ℕ) → length before ≡ n → after ≡ before ++ end ∷ [] → length (upto (n + 1) (numbered_block g)) ≡ end
+    → ((k : ℕ) → k < n → get_or before k 0 ≡ length (upto (k + 1) (numbered_block g))) → (k : ℕ) → k < n + 1 → get_or after k 0 ≡ length (upto (k + 1) (numbered_block g))
+ends_more g before after n end count e last each = below_more _ n
+    (λ k lt. ap (λ l. get_or l k 0) e ∙ get_or_append_left before (end ∷ []) 0 k (omega arith) ∙ each k lt)
+    (ap (λ l. get_or l n 0) e ∙ here before n count ∙ sym last)
+  where
+    here : (l : List ℕ) (n : ℕ) → length l ≡ n → get_or (l ++ end ∷ []) n 0 ≡ end
+    here [] n e = let zero_n : n ≡ 0 = omega arith in ap (λ m. get_or (end ∷ []) m 0) zero_n
+    here (x ∷ l) zero e = absurd (omega arith)
+    here (x ∷ l) (suc n) e = here l n (omega arith)
+
+-- the block in which a place is, by the ends
+pub record IsFound (g : Graph) (place found start : ℕ) : Type 0 where
+  pub number_in : found < block_count g
+  pub front : length (upto found (numbered_block g)) ≡ start
+  pub below : start ≤ place
+  pub within : place - start < length (numbered_block g found)
+
+-- the first end above a place is that of its block
+pub found_at : (g : Graph) (ends : List ℕ) (place found start : ℕ) → AreEnds g ends → found < length ends → (found ≡ 0 → start ≡ 0) → (0 < found → start ≡ get_or ends (found - 1) 0)
+    → (0 < found → get_or ends (found - 1) 0 ≤ place) → place < get_or ends found 0 → IsFound g place found start
+found_at g ends place found start are found_in none some before above =
+    let end : get_or ends found 0 ≡ length (upto (found + 1) (numbered_block g)) = are.each found found_in in
+    let more : length (upto (found + 1) (numbered_block g)) ≡ length (upto found (numbered_block g)) + length (numbered_block g found) = length-more found (numbered_block g) in
+    let count = are.count in
+    let (same, below) = front found found_in none some before in
+    record { number_in = omega arith; front = same; below = below; within = omega arith }
+  where
+    front : (found : ℕ) → found < length ends → (found ≡ 0 → start ≡ 0) → (0 < found → start ≡ get_or ends (found - 1) 0) → (0 < found → get_or ends (found - 1) 0 ≤ place)
+        → (length (upto found (numbered_block g)) ≡ start) × (start ≤ place)
+    front zero found_in none some before = (ap length (upto-none (numbered_block g)) ∙ sym (none refl), omega (arith, none refl))
+    front (suc k) found_in none some before =
+        let back : suc k - 1 + 1 ≡ suc k = omega arith in
+        let is : start ≡ get_or ends (suc k - 1) 0 = some (omega arith) in
+        (sym (is ∙ are.each (suc k - 1) (omega arith) ∙ ap (λ m. length (upto m (numbered_block g))) back), omega (arith, before (omega arith)))
+
+-- the last end is the number of all clauses
+pub last_end : (g : Graph) (ends : List ℕ) → AreEnds g ends → get_or ends (length ends - 1) 0 ≡ length (clauses_of g)
+last_end g ends are =
+    let count = are.count in
+    let back : length ends - 1 + 1 ≡ block_count g = omega arith in
+    are.each (length ends - 1) (omega arith) ∙ whole_fits g (length ends - 1 + 1) back

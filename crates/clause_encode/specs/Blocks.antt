@@ -1,7 +1,7 @@
 -- The list of clauses in blocks, numbered from 0 (this project's own choice).
-use Rattle.std.specs.Prelude.{ℕ, ◌+◌, ◌<◌, ℤ, List, length}
+use Rattle.std.specs.Prelude.{ℕ, ◌≡◌, ◌+◌, ◌<◌, ℤ, List, length, slice_index}
 use Rattle.flow_graph.specs.Graph.{Graph}
-use Rattle.placement_clauses.specs.Upto.{joined, at_place}
+use Rattle.placement_clauses.specs.Upto.{upto, joined, at_place}
 use Rattle.placement_clauses.specs.Clauses.{cell_clauses, apart_from_earlier, at_clauses, pin_clauses, bound_clauses, instr_clauses, instr_traps}
 use Rattle.clause_encode.specs.declared.blocks.Block.{Block}
 use Rattle.clause_encode.specs.declared.blocks.Block.TheVariants.{Cell, Apart, At, Bound, Flow, Traps}
@@ -40,3 +40,8 @@ given_block g =
 -- the clauses of the block of a number
 abbrev pub numbered_block : Graph → ℕ → List (List ℤ)
 numbered_block g = joined (length g.instrs) cell_clauses (joined (length g.instrs) (apart_from_earlier (length g.instrs)) (given_block g))
+
+-- for each block of the program, how many clauses there are up to its end
+pub record AreEnds (g : Graph) (ends : List ℕ) : Type 0 where
+  pub count : length ends ≡ block_count g
+  pub each : (k : ℕ) → k < length ends → slice_index ends k ≡ length (upto (k + 1) (numbered_block g))

@@ -1,5 +1,5 @@
 //! The first two classes: each label has one cell, and the cells of two labels differ.
-ghost use Rattle.std.specs.Prelude.{◌≡◌, ◌<◌, ◌≤◌, ◌^◌, ◌+◌, ◌*◌};
+ghost use Rattle.std.specs.Prelude.{◌<◌, ◌≤◌, ◌^◌, ◌+◌, ◌*◌};
 ghost use Rattle.placement_clauses.specs.Number.{pairs_below};
 ghost use Rattle.placement_clauses.specs.Shape.{no_two};
 ghost use Rattle.placement_clauses.specs.Clauses.{cell_clauses, apart_clauses, apart_from_earlier};

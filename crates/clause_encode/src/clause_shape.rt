@@ -1,6 +1,5 @@
 //! One clause by its shape, and its literals.
-ghost use Rattle.std.specs.Prelude.{◌≡◌, ◌<◌, ◌≤◌, ◌^◌, ◌+◌, ◌∷◌, IfOk, length};
-ghost use Rattle.clause_base.specs.Clauses.{IsClause};
+ghost use Rattle.std.specs.Prelude.{◌≡◌, ◌<◌, ◌≤◌, ◌^◌, ◌+◌, ◌∷◌, IfOk};
 ghost use Rattle.placement_clauses.specs.Upto.{upto};
 ghost use Rattle.placement_clauses.specs.Number.{minus, row_var};
 ghost use Rattle.placement_clauses.specs.Shape.{any_of};

@@ -9,6 +9,7 @@
 //! Contracts: `encode`, `clause_at`, `var_count`, `clause_count`, `place_of`.
 #![tactic(auto)]
 
+mod block_ends;
 mod block_numbers;
 mod blocks;
 mod cells;
@@ -24,6 +25,7 @@ mod test_targets;
 mod traps;
 mod variable_numbers;
 
+pub use block_ends::BlockEnds;
 pub use decoding::place_of;
 pub use encoding::{clause_count, encode, var_count};
 pub use numbered::clause_at;
