@@ -24,6 +24,7 @@ use Rattle.gen_case.proofs.SourceAccepted.{choice_in_range}
 
 -- ---- cells
 
+-- a cell of a row and a column
 abbrev cell : ℕ → ℕ → Position
 cell row col = record { row = row; col = col }
 
@@ -37,9 +38,11 @@ record IsPlaced (label : ℕ) (at : Position) : Type 0 where
   small : label < 128
   is : at ≡ cell_of label
 
+-- a cell that is there is that one
 same_cell : (a b : Position) → (let some : Option Position = Some a in some ≡ Some b) → a ≡ b
 same_cell a b e = cc
 
+-- what has a cell in the placement is such a label
 is_placed : (label : ℕ) (at : Position) → slice_get case_place label ≡ Some at → IsPlaced label at
 unfolding case_place
 is_placed label at e =

@@ -38,6 +38,7 @@ IsLabel label = label < 128
 labels_within : (n : ℕ) → n ≡ 128 → AllByRecursion IsLabel labels
 labels_within n e = subst (λ (ls : List ℕ). AllByRecursion IsLabel ls) (labels_are n e) (range_all IsLabel 128 0 n (omega arith) (λ k small. small))
 
+-- all labels of a case are
 pub all_labels : AllByRecursion IsLabel labels
 all_labels = labels_within 128 refl
 
@@ -50,6 +51,7 @@ all_pinned = filter_all IsLabel is_pinned labels all_labels
 count_with : (n : ℕ) → n ≡ 128 → length labels ≡ 128
 count_with n e = ap length (sym (labels_are n e)) ∙ length-range_with_len 0 n ∙ e
 
+-- all labels are 128
 pub labels_count : length labels ≡ 128
 labels_count = count_with 128 refl
 
@@ -76,5 +78,6 @@ at_with n label e small =
     let same : 0 + label ≡ label = omega arith in
     ap (λ (ls : List ℕ). slice_get ls label) (sym (labels_are n e)) ∙ range_at 0 n label (omega arith) ∙ ap (λ (k : ℕ). Some k) same
 
+-- the label at a number is that number
 pub label_at : (label : ℕ) → label < 128 → slice_get labels label ≡ Some label
 label_at label small = at_with 128 label refl small

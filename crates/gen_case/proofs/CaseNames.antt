@@ -87,6 +87,7 @@ statement_is_name (OnFlag row) = tested_name (codes "iff") refl refl refl refl
 
 -- ---- labels by their names
 
+-- the bytes behind the first
 abbrev tail_of : List ℕ → List ℕ
 tail_of [] = []
 tail_of (b ∷ bs) = bs

@@ -39,6 +39,7 @@ declared_case = record { slices = Some 8; kbus = Some 2; fields = case_declarati
 digit_byte : (register : ℕ) → register < 10 → is_ascii_digit (48 + register) ≡ true
 digit_byte register small = grind arith
 
+-- a register that is found
 abbrev some_register : ℕ → Option Reg
 some_register register = Some (R register)
 
@@ -105,6 +106,7 @@ value_read Xnr value = refl
 value_read Sra value = refl
 value_read Lmi value = refl
 
+-- a kind as an answer
 abbrev ok_kind : Kind → Result Kind AsmKind
 ok_kind kind = Ok kind
 
@@ -130,6 +132,7 @@ named_for number label choice = record {
   targets = target_names label choice.flow;
 }
 
+-- an instruction of a choice with these flag functions and values, as an answer
 abbrev read_as : ℕ → ℕ → Choice → FlagCtl → List ℕ → Result NamedInstr AsmKind
 read_as number label choice ctl values = Ok (record {
   line = number;

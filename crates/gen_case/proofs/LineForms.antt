@@ -34,6 +34,7 @@ record IsTail (pieces : List Piece) : Type 0 where
   apart : begins_run pieces ≡ false
   readable : AreReadable pieces
 
+-- targets can be read
 targets_readable : (targets : List ℕ) → AllByRecursion (λ target. target < 128) targets → IsTail (target_pieces targets)
 targets_readable [] h = record { apart = refl; readable = tt }
 targets_readable (target ∷ targets) h =
@@ -63,6 +64,7 @@ pin_readable label small = (tested_name (codes "pin") refl refl refl refl, refl,
 
 -- ---- what the words say
 
+-- a form as an answer
 abbrev says : SourceLine → Result SourceLine AsmKind
 says line = Ok line
 

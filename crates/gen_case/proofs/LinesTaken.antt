@@ -105,6 +105,7 @@ pin_new pins number first small none = λ label from is_label.
     ∙ or_from (earlier.is_pinned pins (label_name label)) (bytes_eq (label_name label) (label_name first) || false) (none label (omega arith) is_label)
     (or_from (bytes_eq (label_name label) (label_name first)) false (other_name label first is_label small (omega arith)) refl)
 
+-- an element between two lists
 abbrev grouped : {X : Type 0} (xs : List X) (y : X) (ys : List X) → (xs ++ y ∷ []) ++ ys ≡ xs ++ y ∷ ys
 grouped xs y ys = append_assoc xs (y ∷ []) ys
 

@@ -88,6 +88,7 @@ target_known : (instrs : List NamedInstr) (targets : List ℕ) → HaveLabels in
 target_known instrs [] have all = refl
 target_known instrs (target ∷ targets) have all = rw (have.known target all.0) (target_known instrs targets have all.1)
 
+-- nor does any instruction's target
 targets_known : (instrs : List NamedInstr) (chosen : ℕ → Choice) (offset : ℕ) (labels : List ℕ) → HaveLabels instrs → ((label : ℕ) → IsChoice (chosen label)) → AllByRecursion (λ label. label < 128) labels
     → option_map (λ instr. instr.line) (find (λ instr. list_any (is_unknown instrs) instr.targets) (instrs_in chosen offset labels)) ≡ None
 targets_known instrs chosen offset [] have is all = refl
@@ -108,6 +109,7 @@ targets_are instrs [] have all = refl
 targets_are instrs (target ∷ targets) have all =
     rw (have.at target all.0) (ap (λ (ts : List (Option ℕ)). Some target ∷ ts) (targets_are instrs targets have all.1))
 
+-- the instruction of a choice with these targets
 abbrev with_targets : ℕ → ℕ → Choice → List (Option ℕ) → Instr
 with_targets number label choice targets = record (instr_for label choice) { line = number; targets = targets }
 
@@ -120,6 +122,7 @@ instrs_are instrs chosen (label ∷ labels) have is all =
     (targets_are instrs (targets_of label (chosen label).flow) have (targets_below label (chosen label).flow all.0 (is label).flow))
     ∙ ap (λ (found : List Instr). instr_for label (chosen label) ∷ found) (instrs_are instrs chosen labels have is all.1)
 
+-- a program of a case with these parts, as an answer
 abbrev graph_as : ℕ → List Pin → List Instr → Result Graph (ℕ × AsmKind)
 graph_as start pins instrs = Ok (record { decl = case_declaration; rows = 32; start = start; pins = pins; instrs = instrs })
 

@@ -10,7 +10,7 @@ use Rattle.bus_script.specs.declared.buses.Buses.{Buses}
 use Rattle.bus_script.specs.declared.fault.ScriptKind.{ScriptKind}
 use Rattle.bus_script.specs.Script.{Said, Clock, BusScript, script_by, keyword_line, words_said, line_said, script_of}
 use Rattle.bus_script.specs.ScriptSteps.{with_said, after_lines}
-use Rattle.bus_script.specs.Settings.{with_setting, given_after}
+use Rattle.bus_script.specs.Settings.{settings_refusal}
 use Rattle.bus_script.proofs.ScriptLaw.{script_is}
 use Rattle.text_pieces.specs.Pieces.{pieces_text, words_in, AreReadable}
 use Rattle.text_pieces.specs.PieceLines.{AreReadableLines}
@@ -34,7 +34,7 @@ clock_readable word fits = (tested_name (codes "clk") refl refl refl refl, refl,
 
 -- and gives the word
 clock_said : (memory : List (ℕ × ℕ)) (word : ℕ) → word < 65536 → words_said 8 memory (words_in (clock_line word)) ≡ Ok (Clock (buses_with word))
-unfolding keyword_line with_setting given_after
+unfolding keyword_line settings_refusal
 clock_said memory word fits = rw (lt-leb 65536 word fits) refl
 
 -- the line adds a clock

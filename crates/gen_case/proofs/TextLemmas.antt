@@ -92,9 +92,10 @@ source_is number =
     ∙ ap (λ (text : List ℕ). lines_text header_lines ++ text) (lines_append (map pin_line pinned_labels) (map (case_line number) labels))
 
 -- three texts one after the other
-pub joined : (start one two three a b c : List ℕ) → start ≡ [] → one ≡ start ++ a → two ≡ one ++ b → three ≡ two ++ c → three ≡ a ++ (b ++ c)
-joined start one two three a b c s h1 h2 h3 =
-    h3 ∙ ap (λ (t : List ℕ). t ++ c) (h2 ∙ ap (λ (t : List ℕ). t ++ b) (h1 ∙ ap (λ (t : List ℕ). t ++ a) s)) ∙ append_assoc a b c
+pub joined : (start one two three a b c : List ℕ)
+    → start ≡ [] → one ≡ start ++ a → two ≡ one ++ b → three ≡ two ++ c → three ≡ a ++ (b ++ c)
+joined start one two three a b c none first second third =
+    third ∙ ap (λ (t : List ℕ). t ++ c) (second ∙ ap (λ (t : List ℕ). t ++ b) (first ∙ ap (λ (t : List ℕ). t ++ a) none)) ∙ append_assoc a b c
 
 -- ---- the literal texts
 

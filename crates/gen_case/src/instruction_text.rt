@@ -5,7 +5,8 @@ ghost use Rattle.text_pieces.specs.Pieces.{pieces_text};
 ghost use Rattle.text_pieces.specs.PieceLines.{line_text};
 ghost use Rattle.gen_case.specs.Choices.{IsFlow, IsChoice};
 ghost use Rattle.gen_case.specs.Labels.{label_name, targets_of};
-ghost use Rattle.gen_case.specs.SourceText.{mnemonic_of, operand_of, flag_of, flag_pieces, target_pieces, statement_of, instruction_line, pin_line};
+ghost use Rattle.gen_case.specs.SourceText.{mnemonic_of, operand_of, flag_of, flag_pieces, target_pieces};
+ghost use Rattle.gen_case.specs.SourceText.{statement_of, instruction_line, pin_line};
 
 use crate::choices::{Choice, Flow, Operation};
 use std::alloc::AllocError;
@@ -81,7 +82,8 @@ fn flag_of(operation: Operation) -> &'static [u8]
 fn write_flow(text: &mut Vec<u8>, label: u8, flow: Flow) -> Result<(), AllocError>
     requires label { label < 128 }
     requires flow { IsFlow flow }
-    ensures { OnOk result (text.new.items ≡ text.old.items ++ (statement_of flow ++ pieces_text (target_pieces (targets_of label flow)))) }
+    ensures { OnOk result (text.new.items ≡
+        text.old.items ++ (statement_of flow ++ pieces_text (target_pieces (targets_of label flow)))) }
 {
     match flow {
         Flow::SameRow(col) => {

@@ -35,7 +35,8 @@ fn write_pins(text: &mut Vec<u8>) -> Result<(), AllocError>
 
 // Writes an instruction for each label, with five draws for each.
 fn write_instructions(text: &mut Vec<u8>, draws: &mut Draws) -> Result<(), AllocError>
-    ensures text { OnOk result (text.new.items ≡ text.old.items ++ lines_text (map (case_line draws.old.state) labels)) }
+    ensures text { OnOk result
+        (text.new.items ≡ text.old.items ++ lines_text (map (case_line draws.old.state) labels)) }
     ensures state { OnOk result (draws.new.state ≡ state_after draws.old.state 640) }
 {
     for label in 0..LABELS {

@@ -1,8 +1,6 @@
 //! Cases from numbers: the bytes of their texts, and the program that each is.
 
-use bus_script::read_script;
-use gen_case::{flow_sum, make_case};
-use micro_asm::assemble;
+use gen_case::{flow_sum, make_case, read_case};
 use std::alloc::Global;
 use std::test::Fail;
 
@@ -38,10 +36,8 @@ fn cases_are_written_byte_for_byte(rt: HostRuntime) -> Result<(), Fail> {
 
 // The sum of the D values of 64 clocks of a case.
 fn sum_of(alloc: Global, number: u64) -> Option<u64> {
-    let case = make_case(alloc, number).ok()?;
-    let program = assemble(alloc, &case.source).ok()?;
-    let script = read_script(alloc, &case.script, program.decl().slices).ok()?;
-    flow_sum(alloc, &program, &script, 64).ok()
+    let read = read_case(alloc, number).ok()?;
+    flow_sum(alloc, &read.program, &read.script, 64).ok()
 }
 
 #[test]

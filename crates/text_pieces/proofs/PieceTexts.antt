@@ -15,6 +15,7 @@ use Rattle.text_pieces.proofs.PieceTokens.{gives_tokens, each_read}
 
 -- ---- the words of a line
 
+-- words as an answer
 abbrev ok_words : {E : Type 0} → List Word → Result (List Word) E
 ok_words words = Ok words
 
