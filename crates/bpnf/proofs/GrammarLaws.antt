@@ -40,11 +40,15 @@ shows_frame bits [] text word shown lt = (
   },
   All-nil (λ (b : ℕ). b ≢ 66),
 )
-shows_frame bits (first ∷ words) text word shown lt =
-    (shown.0 ++ frame bits word, begins_append bits first shown.0 text (frame bits word) shown.1, shows_frame bits words shown.0 word shown.2 lt)
+shows_frame bits (first ∷ words) text word shown lt = (
+  shown.0 ++ frame bits word,
+  begins_append bits first shown.0 text (frame bits word) shown.1,
+  shows_frame bits words shown.0 word shown.2 lt,
+)
 
 -- each word that is shown has these bits
 pub shown_fits : (bits : ℕ) (words text : List ℕ) → Shows bits words text → All (λ word. word < 2 ^ bits) words
 unfolding Shows
 shown_fits bits [] text shown = All-nil (λ (w : ℕ). w < 2 ^ bits)
-shown_fits bits (word ∷ words) text shown = All-cons (λ (w : ℕ). w < 2 ^ bits) word words shown.1.fits (shown_fits bits words shown.0 shown.2)
+shown_fits bits (word ∷ words) text shown =
+    All-cons (λ (w : ℕ). w < 2 ^ bits) word words shown.1.fits (shown_fits bits words shown.0 shown.2)

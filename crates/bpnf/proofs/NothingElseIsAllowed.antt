@@ -104,9 +104,11 @@ run_letters bits count position words frame (byte ∷ taken) rest are fit =
     run_inside bits count (position + 1) words (with_letters frame (byte ∷ [])) (taken ++ rest) =
     rw (room, bit) refl in
     step ∙
-    run_letters bits count (position + 1) words (with_letters frame (byte ∷ [])) taken rest (All-tail IsLetter byte taken are) (omega (arith, fit)) ∙
+    run_letters bits count (position + 1) words (with_letters frame (byte ∷ [])) taken rest (All-tail IsLetter byte taken are)
+    (omega (arith, fit)) ∙
     ap (λ (p : ℕ). run_inside bits count p words (with_letters (with_letters frame (byte ∷ [])) taken) rest) (omega arith) ∙
-    ap (λ (n : ℕ). run_inside bits count (position + length (byte ∷ taken)) words (begun_frame frame.start n (spelled frame.word (byte ∷ taken))) rest) (omega arith)
+    ap (λ (n : ℕ). run_inside bits count (position + length (byte ∷ taken)) words
+    (begun_frame frame.start n (spelled frame.word (byte ∷ taken))) rest) (omega arith)
 
 -- a frame of which the `B` alone is read
 abbrev begun_at : ℕ → OpenFrame
@@ -133,9 +135,11 @@ run_frame bits count position words word rest few fits =
     omega (arith, length-append (letters_of bits word) (70 ∷ [])) in
     run_begin bits count position words ((letters_of bits word ++ 70 ∷ []) ++ rest) few ∙
     ap (λ t. run_inside bits count (position + 1) words (begun_at position) t) (append_assoc (letters_of bits word) (70 ∷ []) rest) ∙
-    run_letters bits count (position + 1) words (begun_at position) (letters_of bits word) (70 ∷ rest) (letters_of_are bits word) (omega (arith, many)) ∙
+    run_letters bits count (position + 1) words (begun_at position) (letters_of bits word) (70 ∷ rest) (letters_of_are bits word)
+    (omega (arith, many)) ∙
     rw whole refl ∙
-    ap (λ (w : ℕ). run_outside bits count (position + 1 + length (letters_of bits word) + 1) (words ++ w ∷ []) rest) (spelled-letters bits word fits) ∙
+    ap (λ (w : ℕ). run_outside bits count (position + 1 + length (letters_of bits word) + 1) (words ++ w ∷ []) rest)
+    (spelled-letters bits word fits) ∙
     ap (λ (p : ℕ). run_outside bits count p (words ++ word ∷ []) rest) (omega (arith, length_is))
 
 -- whole frames and comments bring their words
@@ -158,7 +162,8 @@ run_shown bits count position before (word ∷ words) front rest shown few =
     ap (λ t. run_outside bits count position before t) text ∙
     run_comment bits count position before comment (frame bits word ++ (shown.0 ++ rest)) shown.1.before ∙
     run_frame bits count (position + length comment) before word (shown.0 ++ rest) (omega (arith, few)) shown.1.fits ∙
-    run_shown bits count (position + length comment + length (frame bits word)) (before ++ word ∷ []) words shown.0 rest shown.2 (omega (arith, few, length-append before (word ∷ []))) ∙
+    run_shown bits count (position + length comment + length (frame bits word)) (before ++ word ∷ []) words shown.0 rest shown.2
+    (omega (arith, few, length-append before (word ∷ []))) ∙
     ap (λ (p : ℕ). run_outside bits count p ((before ++ word ∷ []) ++ words) rest) (omega (arith, length_is)) ∙
     ap (λ ws. run_outside bits count (position + length front) ws rest) (append_assoc before (word ∷ []) words)
 
@@ -194,7 +199,8 @@ only_bad_letter bits count text position bad =
     ap (λ (p : ℕ). fault_is (BadLetter p)) (sym bad.position_is)
   where
     refused : (nat_lt (0 + length bad.letters) bits ≡ true) ⊎ (nat_lt (0 + length bad.letters) bits ≡ false) →
-        run_inside bits count (length bad.front + 1 + length bad.letters) bad.inside.before.words (with_letters (begun_at (length bad.front)) bad.letters) (bad.byte ∷ bad.rest)
+        run_inside bits count (length bad.front + 1 + length bad.letters) bad.inside.before.words
+        (with_letters (begun_at (length bad.front)) bad.letters) (bad.byte ∷ bad.rest)
         ≡ Err (BadLetter (length bad.front + 1 + length bad.letters))
     refused (inl lt) =
         let other : bit_of bad.byte ≡ None =
@@ -218,12 +224,14 @@ only_reading bits count text (Err (CutWord position)) cut =
     ap (λ (p : ℕ). fault_is (CutWord p)) (sym cut.position_is))
 only_reading bits count text (Err (TooFew frames)) short =
     let words = short.whole.words in
-    sym (reading_after bits count words text [] text short.whole.shown (omega (arith, short.few, short.whole.counted)) (sym (append-nil text)) ∙
+    sym (reading_after bits count words text [] text short.whole.shown (omega (arith, short.few, short.whole.counted))
+    (sym (append-nil text)) ∙
     rw (lt-ltb (length words) count (omega (arith, short.few, short.whole.counted))) refl ∙
     ap (λ (n : ℕ). fault_is (TooFew n)) short.whole.counted)
 only_reading bits count text (Err (TooMany position)) surplus =
     let words = surplus.before.words in
-    sym (reading_after bits count words surplus.front (66 ∷ surplus.rest) text surplus.before.shown (omega (arith, surplus.before.counted)) surplus.text_is ∙
+    sym (reading_after bits count words surplus.front (66 ∷ surplus.rest) text surplus.before.shown
+    (omega (arith, surplus.before.counted)) surplus.text_is ∙
     rw (le-ltb (length words) count (omega (arith, surplus.before.counted))) refl ∙
     ap (λ (p : ℕ). fault_is (TooMany p)) (sym surplus.position_is))
 only_reading bits count text (Err OutOfMemory) never = absurd never

@@ -135,7 +135,8 @@ letter_stands bits count position front words frame byte begun at room = elim (c
   | inr no_p ↦ elim (cases_Bool (byte == 78)) [
     | inl is ↦ rw (no_p, is) (with_bit bits count front words frame byte 0 begun room (omega arith) (eqb-true byte 78 is))
     | inr no_n ↦ rw (no_p, no_n) (bad_letter bits count position front words frame byte begun at
-        (λ lt letter. elim letter [ inl p ↦ eqb-false byte 80 no_p p | inr n ↦ eqb-false byte 78 no_n n ]) (λ e. absurd (omega (arith, e, room))))
+        (λ lt letter. elim letter [ inl p ↦ eqb-false byte 80 no_p p | inr n ↦ eqb-false byte 78 no_n n ])
+        (λ e. absurd (omega (arith, e, room))))
   ]
 ]
 
@@ -164,7 +165,9 @@ inside_stands bits count position front words frame byte begun at = elim (cases_
       let whole : frame.letters ≡ bits = whole_is (ltb-false frame.letters bits ge) in
       elim (cases_Bool (byte == 70)) [
         | inl is ↦ rw (ge, is) (frame_ends bits count front words frame byte begun whole (eqb-true byte 70 is))
-        | inr other ↦ rw (ge, other) (bad_letter bits count position front words frame byte begun at (λ lt letter. absurd (omega (arith, lt, whole))) (λ e. eqb-false byte 70 other))
+        | inr other ↦ rw (ge, other)
+            (bad_letter bits count position front words frame byte begun at (λ lt letter. absurd (omega (arith, lt, whole)))
+            (λ e. eqb-false byte 70 other))
       ]
 ]
   where
@@ -219,9 +222,11 @@ run_stands : (bits count position : ℕ) (front rest : List ℕ) (state : State)
     Reads bits count (front ++ rest) (run bits count position state rest)
 unfolding run
 run_stands bits count position front [] state stands at =
-    subst (λ t. Reads bits count t (at_end count state.words state.begun)) (sym (append-nil front)) (end_stands bits count front state.words state.begun stands)
+    subst (λ t. Reads bits count t (at_end count state.words state.begun)) (sym (append-nil front))
+    (end_stands bits count front state.words state.begun stands)
 run_stands bits count position front (byte ∷ rest) state stands at =
-    goes_on (λ next stands. subst (λ t. Reads bits count t (run bits count (position + 1) next rest)) (append_assoc front (byte ∷ []) rest)
+    goes_on (λ next stands. subst (λ t. Reads bits count t (run bits count (position + 1) next rest))
+    (append_assoc front (byte ∷ []) rest)
     (run_stands bits count (position + 1) (front ++ byte ∷ []) rest next stands (omega (arith, at, length-append front (byte ∷ [])))))
     (at_byte bits count position state.words state.begun byte)
     (byte_stands bits count position front state.words state.begun byte stands at)

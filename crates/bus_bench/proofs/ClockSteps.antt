@@ -21,16 +21,20 @@ unfolding parts_of
 kbits_below decl word = mod-lt (word / 2 ^ 18) (pow_pos decl.kbus)
 
 -- the machine after a clock, from the array's answer and the latch
-pub machine_after : (decl : Declaration) (parts : WordParts) (cell : Position) (m : Machine) (b : Buses) (order : Order) (registers : Registers) (fi : Bool) (pr : ℕ) (next : Machine)
-    → order ≡ order_by decl parts → registers ≡ (array_of decl.slices order b m).registers → fi ≡ fi_of decl.slices order b m → pr ≡ next_pr parts.jump.code m.pr b.sx
+pub machine_after : (decl : Declaration) (parts : WordParts) (cell : Position) (m : Machine) (b : Buses) (order : Order)
+    (registers : Registers) (fi : Bool) (pr : ℕ) (next : Machine)
+    → order ≡ order_by decl parts → registers ≡ (array_of decl.slices order b m).registers → fi ≡ fi_of decl.slices order b m
+    → pr ≡ next_pr parts.jump.code m.pr b.sx
     → next ≡ changed order registers fi pr m → next ≡ (step_by decl parts (record { cell = cell; machine = m }) b).machine
 unfolding step_by after
 machine_after decl parts cell m b order registers fi pr next is_order is_registers is_fi is_pr ends =
     ends ∙ rw (is_registers, is_fi, is_pr, is_order)
 
 -- what is seen of a clock, from the array's answer and the outputs
-pub view_after : (decl : Declaration) (parts : WordParts) (cell : Position) (m : Machine) (b : Buses) (order : Order) (ise : Bool) (shown : Option ℕ) (links : ℕ) (view : ClockView)
-    → order ≡ order_by decl parts → links ≡ (array_of decl.slices order b m).links → ise ≡ is_strobe parts.jump.code parts.jump.operand → shown ≡ pr_shown parts.jump.code m.pr
+pub view_after : (decl : Declaration) (parts : WordParts) (cell : Position) (m : Machine) (b : Buses) (order : Order) (ise : Bool)
+    (shown : Option ℕ) (links : ℕ) (view : ClockView)
+    → order ≡ order_by decl parts → links ≡ (array_of decl.slices order b m).links → ise ≡ is_strobe parts.jump.code parts.jump.operand
+    → shown ≡ pr_shown parts.jump.code m.pr
     → view ≡ seen m ise shown parts.values links → view ≡ view_by decl parts (record { cell = cell; machine = m }) b
 unfolding view_by view_of
 view_after decl parts cell m b order ise shown links view is_order is_links is_ise is_shown shows =
@@ -46,6 +50,7 @@ pub start_clock : (script : BusScript) → (bench_start script).machine.clock �
 unfolding bench_start start_machine
 start_clock script = refl
 
-pub step_clock : (words : List ℕ) (decl : Declaration) (s : BenchState) (b : Buses) → (chip_step words decl s b).machine.clock ≡ s.machine.clock + 1
+pub step_clock : (words : List ℕ) (decl : Declaration) (s : BenchState) (b : Buses)
+    → (chip_step words decl s b).machine.clock ≡ s.machine.clock + 1
 unfolding chip_step step_by after
 step_clock words decl s b = refl

@@ -23,13 +23,16 @@ pub record Agrees (kind : Kind) (jump : JumpWord) (readings : Readings) (sx : �
   pub count : outcome_count jump.code ≡ outcomes_of kind
 
 -- the same for each jump of one code
-agrees_by : (kind : Kind) (c : Code) (jump : JumpWord) (readings : Readings) (sx : ℕ) → jump.code ≡ c → Agrees kind (record { code = c; operand = jump.operand }) readings sx → Agrees kind jump readings sx
-agrees_by kind c jump readings sx e h = subst (λ (d : Code). Agrees kind (record { code = d; operand = jump.operand }) readings sx) (sym e) h
+agrees_by : (kind : Kind) (c : Code) (jump : JumpWord) (readings : Readings) (sx : ℕ) → jump.code ≡ c
+    → Agrees kind (record { code = c; operand = jump.operand }) readings sx → Agrees kind jump readings sx
+agrees_by kind c jump readings sx e h =
+    subst (λ (d : Code). Agrees kind (record { code = d; operand = jump.operand }) readings sx) (sym e) h
 
 not_fifteen : (d : ℕ) → d < 15 → (d == 15) ≡ false
 not_fifteen d h = grind (arith, nat_tests)
 
-goto_agrees : (c : Code) (d : ℕ) (readings : Readings) (sx : ℕ) → Admits kind.Goto (record { code = c; operand = d }) → Agrees kind.Goto (record { code = c; operand = d }) readings sx
+goto_agrees : (c : Code) (d : ℕ) (readings : Readings) (sx : ℕ) → Admits kind.Goto (record { code = c; operand = d })
+    → Agrees kind.Goto (record { code = c; operand = d }) readings sx
 goto_agrees code.Jcc d readings sx h = record { outcome = refl; latch = refl; strobe = refl; shown = refl; count = refl }
 goto_agrees code.Jcr d readings sx h = record { outcome = refl; latch = refl; strobe = refl; shown = refl; count = refl }
 goto_agrees code.Jzr d readings sx h = record { outcome = refl; latch = refl; strobe = not_fifteen d h; shown = refl; count = refl }
@@ -37,22 +40,34 @@ goto_agrees _ d readings sx h = absurd h
 
 pub agrees : (kind : Kind) (jump : JumpWord) (readings : Readings) (sx : ℕ) → Admits kind jump → Agrees kind jump readings sx
 agrees kind.Goto jump readings sx h = goto_agrees jump.code jump.operand readings sx h
-agrees kind.Strobe jump readings sx h = agrees_by kind.Strobe code.Jzr jump readings sx h.0 (record { outcome = refl; latch = refl; strobe = eq-eqb jump.operand 15 h.1; shown = refl; count = refl })
-agrees kind.Enable jump readings sx h = agrees_by kind.Enable code.Jce jump readings sx h (record { outcome = refl; latch = refl; strobe = refl; shown = refl; count = refl })
-agrees kind.IfF jump readings sx h = agrees_by kind.IfF code.Jfl jump readings sx h (record { outcome = refl; latch = refl; strobe = refl; shown = refl; count = refl })
-agrees kind.IfC jump readings sx h = agrees_by kind.IfC code.Jcf jump readings sx h (record { outcome = refl; latch = refl; strobe = refl; shown = refl; count = refl })
-agrees kind.IfZ jump readings sx h = agrees_by kind.IfZ code.Jzf jump readings sx h (record { outcome = refl; latch = refl; strobe = refl; shown = refl; count = refl })
-agrees kind.OnPr jump readings sx h = agrees_by kind.OnPr code.Jpr jump readings sx h (record { outcome = refl; latch = refl; strobe = refl; shown = refl; count = refl })
-agrees kind.OnPx jump readings sx h = agrees_by kind.OnPx code.Jpx jump readings sx h (record { outcome = refl; latch = refl; strobe = refl; shown = refl; count = refl })
-agrees kind.OnLeft jump readings sx h = agrees_by kind.OnLeft code.Jll jump readings sx h (record { outcome = refl; latch = refl; strobe = refl; shown = refl; count = refl })
-agrees kind.OnRight jump readings sx h = agrees_by kind.OnRight code.Jrl jump readings sx h (record { outcome = refl; latch = refl; strobe = refl; shown = refl; count = refl })
+agrees kind.Strobe jump readings sx h =
+    agrees_by kind.Strobe code.Jzr jump readings sx h.0
+    (record { outcome = refl; latch = refl; strobe = eq-eqb jump.operand 15 h.1; shown = refl; count = refl })
+agrees kind.Enable jump readings sx h =
+    agrees_by kind.Enable code.Jce jump readings sx h (record { outcome = refl; latch = refl; strobe = refl; shown = refl; count = refl })
+agrees kind.IfF jump readings sx h =
+    agrees_by kind.IfF code.Jfl jump readings sx h (record { outcome = refl; latch = refl; strobe = refl; shown = refl; count = refl })
+agrees kind.IfC jump readings sx h =
+    agrees_by kind.IfC code.Jcf jump readings sx h (record { outcome = refl; latch = refl; strobe = refl; shown = refl; count = refl })
+agrees kind.IfZ jump readings sx h =
+    agrees_by kind.IfZ code.Jzf jump readings sx h (record { outcome = refl; latch = refl; strobe = refl; shown = refl; count = refl })
+agrees kind.OnPr jump readings sx h =
+    agrees_by kind.OnPr code.Jpr jump readings sx h (record { outcome = refl; latch = refl; strobe = refl; shown = refl; count = refl })
+agrees kind.OnPx jump readings sx h =
+    agrees_by kind.OnPx code.Jpx jump readings sx h (record { outcome = refl; latch = refl; strobe = refl; shown = refl; count = refl })
+agrees kind.OnLeft jump readings sx h =
+    agrees_by kind.OnLeft code.Jll jump readings sx h (record { outcome = refl; latch = refl; strobe = refl; shown = refl; count = refl })
+agrees kind.OnRight jump readings sx h =
+    agrees_by kind.OnRight code.Jrl jump readings sx h
+    (record { outcome = refl; latch = refl; strobe = refl; shown = refl; count = refl })
 
 bit_below : (b : Bool) → bit b < 2
 bit_below true = omega arith
 bit_below false = omega arith
 
 -- the outcome is one of the statement's
-pub outcome_below : (kind : Kind) (readings : Readings) → readings.pr < 16 → readings.px < 16 → flow.outcome_of kind readings < outcomes_of kind
+pub outcome_below : (kind : Kind) (readings : Readings) → readings.pr < 16 → readings.px < 16
+    → flow.outcome_of kind readings < outcomes_of kind
 outcome_below kind.IfF readings pr px = bit_below readings.f
 outcome_below kind.IfC readings pr px = bit_below readings.c
 outcome_below kind.IfZ readings pr px = bit_below readings.z
@@ -72,7 +87,8 @@ col_below code.Jcc col d v col_in d_in v_in = omega arith
 col_below _ col d v col_in d_in v_in = omega arith
 
 -- a jump from a cell lands on a cell
-pub lands_in : (from : Position) (jump : JumpWord) (v : ℕ) → IsCell from → IsJump jump → v < outcome_count jump.code → IsCell (lands from jump v)
+pub lands_in : (from : Position) (jump : JumpWord) (v : ℕ) → IsCell from → IsJump jump → v < outcome_count jump.code
+    → IsCell (lands from jump v)
 lands_in from jump v cell in_range v_in = record {
   row = row_below jump.code from.row jump.operand cell.row in_range;
   col = col_below jump.code from.col jump.operand v cell.col in_range v_in;

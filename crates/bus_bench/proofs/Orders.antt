@@ -29,15 +29,18 @@ pub record IsHeld (decl : Declaration) (order : Order) (values : List ℕ) : Typ
 pub read_back : (decl : Declaration) (order : Order) (values : List ℕ) (jump : JumpWord) → IsHeld decl order values → IsJump jump
     → parts_of decl (word_by decl (parts_with decl order values jump)) ≡ parts_with decl order values jump
 read_back decl order values jump h in_range =
-    parts_back decl (parts_with decl order values jump) (record { jump = in_range; func = h.func; kbits = gathered_below (share_in decl) decl.kbus order.mask; values = h.fields })
+    parts_back decl (parts_with decl order values jump)
+    (record { jump = in_range; func = h.func; kbits = gathered_below (share_in decl) decl.kbus order.mask; values = h.fields })
 
 -- and they order what was ordered
-pub order_back : (decl : Declaration) (order : Order) (values : List ℕ) (jump : JumpWord) → IsHeld decl order values → order_by decl (parts_with decl order values jump) ≡ order
+pub order_back : (decl : Declaration) (order : Order) (values : List ℕ) (jump : JumpWord) → IsHeld decl order values
+    → order_by decl (parts_with decl order values jump) ≡ order
 unfolding order_by
 order_back decl order values jump h = rw (h.mask, h.write)
 
 -- an instruction orders what a word can hold
-pub instr_held : (decl : Declaration) (instr : Instr) → instr.func < 128 → FitsDeclaration decl instr → IsHeld decl (order_of decl (Some instr)) (values_of decl (Some instr))
+pub instr_held : (decl : Declaration) (instr : Instr) → instr.func < 128 → FitsDeclaration decl instr
+    → IsHeld decl (order_of decl (Some instr)) (values_of decl (Some instr))
 instr_held decl instr func h = record {
   func = func;
   mask = eqb-true (spread_bits (share_in decl) decl.kbus (gathered_bits (share_in decl) decl.kbus instr.mask)) instr.mask h.kbits;

@@ -22,28 +22,36 @@ record Narrow (b : Buses) : Type 0 where
   sx : b.sx < 16
 
 -- so have those of each clock
-narrow : (slices : ℕ) (clocks : List Buses) (clock : ℕ) → All (AreBusesFor slices) clocks → Narrow (unwrap_or (slice_get clocks clock) idle)
+narrow : (slices : ℕ) (clocks : List Buses) (clock : ℕ) → All (AreBusesFor slices) clocks
+    → Narrow (unwrap_or (slice_get clocks clock) idle)
 narrow slices [] clock h = record { px = omega arith; sx = omega arith }
 narrow slices (b ∷ bs) zero h = let first = All-head (AreBusesFor slices) b bs h in record { px = first.px; sx = first.sx }
 narrow slices (b ∷ bs) (suc clock) h = narrow slices bs clock (All-tail (AreBusesFor slices) b bs h)
 
-from_matches : (n : ℕ) (g : Graph) (place : List Position) (words : List ℕ) (script : BusScript) (cell : Position) (at : Option ℕ) (m : Machine)
+from_matches : (n : ℕ) (g : Graph) (place : List Position) (words : List ℕ) (script : BusScript) (cell : Position) (at : Option ℕ)
+    (m : Machine)
     → IsGraph g → IsLegal g place → HoldsProgram g place words → IsScriptFor g.decl.slices script → Stands place cell at m
-    → Matches place (chip_from words g.decl script n (record { cell = cell; machine = m })) (flow_from g script n (record { place = at; machine = m }))
+    → Matches place (chip_from words g.decl script n (record { cell = cell; machine = m }))
+    (flow_from g script n (record { place = at; machine = m }))
 unfolding chip_from flow_from
 from_matches zero g place words script cell at m graph legal holds fits stands = tt
 from_matches (suc n) g place words script cell at m graph legal holds fits stands =
     let b : Buses = buses_at script m.clock in
     let buses : Narrow b = narrow g.decl.slices script.clocks m.clock fits.clocks in
-    let step : Goes g place words cell at m b = goes g place words cell at m b graph legal holds buses.px buses.sx stands in
-    (step.view, stands.there, rw (step.chip, step.flow) (from_matches n g place words script step.next_cell step.next_at step.next graph legal holds fits step.stands))
+    let step : Goes g place words cell at m b = goes g place words cell at m b graph legal holds buses.px buses.sx stands in (
+      step.view,
+      stands.there,
+      rw (step.chip, step.flow)
+          (from_matches n g place words script step.next_cell step.next_at step.next graph legal holds fits step.stands),
+    )
 
 start_pr : (script : BusScript) → (start_machine script).pr < 16
 unfolding start_machine
 start_pr script = omega arith
 
 -- chip and flow match from the start on
-pub law : (g : Graph) (place : List Position) (words : List ℕ) (script : BusScript) (n : ℕ) → IsGraph g → IsLegal g place → HoldsProgram g place words → IsScriptFor g.decl.slices script
+pub law : (g : Graph) (place : List Position) (words : List ℕ) (script : BusScript) (n : ℕ) → IsGraph g → IsLegal g place
+    → HoldsProgram g place words → IsScriptFor g.decl.slices script
     → Matches place (chip_trace words g.decl script n) (flow_trace g script n)
 unfolding chip_trace flow_trace bench_start flow_start
 law g place words script n graph legal holds fits =

@@ -36,7 +36,8 @@ readings_in g here m b = readings_of m (fi_of g.decl.slices (order_of g.decl her
 
 -- what is read at a cell, and what the flow executes there, say the same: order and values, the next place, latch,
 -- strobe and latch outputs
-pub record Says (g : Graph) (place : List Position) (words : List ℕ) (cell : Position) (here : Option Instr) (m : Machine) (b : Buses) : Type 0 where
+pub record Says (g : Graph) (place : List Position) (words : List ℕ) (cell : Position) (here : Option Instr) (m : Machine) (b : Buses)
+    : Type 0 where
   pub jump : JumpWord
   pub reads : parts_at words g.decl cell ≡ parts_with g.decl (order_of g.decl here) (values_of g.decl here) jump
   pub held : IsHeld g.decl (order_of g.decl here) (values_of g.decl here)
@@ -48,7 +49,8 @@ pub record Says (g : Graph) (place : List Position) (words : List ℕ) (cell : P
   pub below : latch_after here m.pr b.sx < 16
 
 -- a clock leads chip and flow from here to there, with one view and one machine
-pub record Goes (g : Graph) (place : List Position) (words : List ℕ) (cell : Position) (at : Option ℕ) (m : Machine) (b : Buses) : Type 0 where
+pub record Goes (g : Graph) (place : List Position) (words : List ℕ) (cell : Position) (at : Option ℕ) (m : Machine) (b : Buses)
+    : Type 0 where
   pub next_cell : Position
   pub next_at : Option ℕ
   pub next : Machine
@@ -74,7 +76,11 @@ goes_by g place words cell at m b s =
       view = rw (s.reads, order_back g.decl o (values_of g.decl here) s.jump s.held, s.strobe, s.shown);
       chip = rw (s.reads, order_back g.decl o (values_of g.decl here) s.jump s.held, s.latch);
       flow = refl;
-      stands = record { in_matrix = s.in_matrix; there = s.there; pr = after_pr g.decl.slices o b (latch_after here m.pr b.sx) m s.below };
+      stands = record {
+        in_matrix = s.in_matrix;
+        there = s.there;
+        pr = after_pr g.decl.slices o b (latch_after here m.pr b.sx) m s.below;
+      };
     }
 
 -- at a label's cell
@@ -87,11 +93,13 @@ label_says g place words cell label m b instr graph holds in_matrix pr px sx at 
     let w = holds.labels label instr cell here at in
     let jump : JumpWord = w.0 in
     let meets : MeetsLegality place instr cell jump = w.1 in
-    let held : IsHeld g.decl o instr.values = instr_held g.decl instr (graph.functions label instr here) (graph.microwords.each label instr here) in
+    let held : IsHeld g.decl o instr.values =
+    instr_held g.decl instr (graph.functions label instr here) (graph.microwords.each label instr here) in
     let same : Agrees instr.kind jump t b.sx = agrees instr.kind jump t b.sx meets.admitted in
     let out : ℕ = outcome_of instr.kind t in
     let below : out < outcomes_of instr.kind = outcome_below instr.kind t pr px in
-    let within : out < length instr.targets = subst (λ (n : ℕ). out < n) (sym (graph.program.each_instr label instr here).target_for_each_outcome) below in
+    let within : out < length instr.targets =
+    subst (λ (n : ℕ). out < n) (sym (graph.program.each_instr label instr here).target_for_each_outcome) below in
     let target = element_at instr.targets out within in
     record {
       jump = jump;
@@ -113,7 +121,8 @@ trap_says g place words cell m b graph holds in_matrix pr at =
     let held : IsHeld g.decl o (values_of g.decl None) = free_held g.decl graph.declares in
     record {
       jump = free_jump cell;
-      reads = ap (parts_of g.decl) (holds.free cell in_matrix at) ∙ read_back g.decl o (values_of g.decl None) (free_jump cell) held in_matrix.row;
+      reads = ap (parts_of g.decl) (holds.free cell in_matrix at)
+          ∙ read_back g.decl o (values_of g.decl None) (free_jump cell) held in_matrix.row;
       held = held;
       in_matrix = in_matrix;
       there = at;
@@ -124,9 +133,13 @@ trap_says g place words cell m b graph holds in_matrix pr at =
     }
 
 pub goes : (g : Graph) (place : List Position) (words : List ℕ) (cell : Position) (at : Option ℕ) (m : Machine) (b : Buses)
-    → IsGraph g → IsLegal g place → HoldsProgram g place words → b.px < 16 → b.sx < 16 → Stands place cell at m → Goes g place words cell at m b
-goes g place words cell None m b graph legal holds px sx s = goes_by g place words cell None m b (trap_says g place words cell m b graph holds s.in_matrix s.pr s.there)
+    → IsGraph g → IsLegal g place → HoldsProgram g place words → b.px < 16 → b.sx < 16 → Stands place cell at m
+    → Goes g place words cell at m b
+goes g place words cell None m b graph legal holds px sx s =
+    goes_by g place words cell None m b (trap_says g place words cell m b graph holds s.in_matrix s.pr s.there)
 goes g place words cell (Some label) m b graph legal holds px sx s =
-    let within : label < length g.instrs = subst (λ (n : ℕ). label < n) legal.cell_for_each_label (slice_get_within place label cell s.there) in
+    let within : label < length g.instrs =
+    subst (λ (n : ℕ). label < n) legal.cell_for_each_label (slice_get_within place label cell s.there) in
     let here = element_at g.instrs label within in
-    goes_by g place words cell (Some label) m b (rw here.1 (label_says g place words cell label m b here.0 graph holds s.in_matrix s.pr px sx s.there here.1))
+    goes_by g place words cell (Some label) m b
+    (rw here.1 (label_says g place words cell label m b here.0 graph holds s.in_matrix s.pr px sx s.there here.1))

@@ -56,7 +56,8 @@ step_by decl parts s b = record {
 -- what is seen of a clock on these parts
 unfoldable pub view_by : Declaration → WordParts → BenchState → Buses → ClockView
 view_by decl parts s b =
-    view_of decl.slices (order_by decl parts) b (is_strobe parts.jump.code parts.jump.operand) (pr_shown parts.jump.code s.machine.pr) parts.values s.machine
+    view_of decl.slices (order_by decl parts) b (is_strobe parts.jump.code parts.jump.operand) (pr_shown parts.jump.code s.machine.pr)
+    parts.values s.machine
 
 -- the state after a clock on the word of the present cell
 unfoldable pub chip_step : List ℕ → Declaration → BenchState → Buses → BenchState

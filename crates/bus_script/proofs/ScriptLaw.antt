@@ -19,7 +19,8 @@ all_said said = Ok (script_by said)
 
 -- the further lines go on from what a line says, unless it is refused
 goes_on : (slices : ℕ) (earlier : List Said) (rest : List (List ℕ)) (number : ℕ)
-    → ((said : Said) → after_lines slices (with_line (script_by earlier) said) (number + 1) rest ≡ (lines_said slices (earlier ++ said ∷ []) rest >>= all_said))
+    → ((said : Said) → after_lines slices (with_line (script_by earlier) said) (number + 1)
+    rest ≡ (lines_said slices (earlier ++ said ∷ []) rest >>= all_said))
     → (read : Result Said ScriptKind)
     → (in_line number (with_said (script_by earlier) read) >>= λ more. after_lines slices more (number + 1) rest)
     ≡ ((in_line number read >>= λ said. lines_said slices (earlier ++ said ∷ []) rest) >>= all_said)
@@ -27,13 +28,15 @@ goes_on slices earlier rest number more (Ok said) = more said
 goes_on slices earlier rest number more (Err kind) = refl
 
 -- the script after these lines is what they say together
-lines_taken : (slices : ℕ) (earlier : List Said) (rest : List (List ℕ)) → after_lines slices (script_by earlier) (length earlier + 1) rest ≡ (lines_said slices earlier rest >>= all_said)
+lines_taken : (slices : ℕ) (earlier : List Said) (rest : List (List ℕ))
+    → after_lines slices (script_by earlier) (length earlier + 1) rest ≡ (lines_said slices earlier rest >>= all_said)
 unfolding after_lines lines_said
 lines_taken slices earlier [] = refl
 lines_taken slices earlier (line ∷ rest) =
     goes_on slices earlier rest (length earlier + 1)
     (λ said. ap (λ (script : BusScript). after_lines slices script (length earlier + 1 + 1) rest) (sym (script_push earlier said))
-    ∙ ap (λ (number : ℕ). after_lines slices (script_by (earlier ++ said ∷ [])) number rest) (omega (arith, length-append earlier (said ∷ [])))
+    ∙ ap (λ (number : ℕ). after_lines slices (script_by (earlier ++ said ∷ [])) number rest)
+    (omega (arith, length-append earlier (said ∷ [])))
     ∙ lines_taken slices (earlier ++ said ∷ []) rest)
     (line_said slices (length earlier + 1) (script_by earlier).memory line)
 

@@ -98,7 +98,8 @@ line_said slices number memory line = if nat_lt 65536 number then Err kinds.Line
 unfoldable pub lines_said : ℕ → List Said → List (List ℕ) → Result (List Said) (ℕ × ScriptKind)
 lines_said slices earlier [] = Ok earlier
 lines_said slices earlier (line ∷ rest) =
-    in_line (length earlier + 1) (line_said slices (length earlier + 1) (script_by earlier).memory line) >>= λ said. lines_said slices (earlier ++ said ∷ []) rest
+    in_line (length earlier + 1) (line_said slices (length earlier + 1) (script_by earlier).memory line) >>= λ said. lines_said slices
+    (earlier ++ said ∷ []) rest
 
 -- the script of a text for an array of this many slices, or the first refused line
 abbrev pub script_of : ℕ → List ℕ → Result BusScript (ℕ × ScriptKind)

@@ -32,7 +32,8 @@ fresh_value given bound value = if is_some given then Err kinds.Twice else if na
 unfoldable pub with_setting : ℕ → Given → Setting → Result Given ScriptKind
 with_setting slices given setting =
     if bytes_eq setting.key (codes "m") then (fresh_value given.m (4 ^ slices) setting.value >>= λ m. Ok (record given { m = Some m }))
-    else if bytes_eq setting.key (codes "i") then (fresh_value given.i (4 ^ slices) setting.value >>= λ i. Ok (record given { i = Some i }))
+    else if bytes_eq setting.key (codes "i") then
+    (fresh_value given.i (4 ^ slices) setting.value >>= λ i. Ok (record given { i = Some i }))
     else if bytes_eq setting.key (codes "px") then (fresh_value given.px 16 setting.value >>= λ px. Ok (record given { px = Some px }))
     else if bytes_eq setting.key (codes "sx") then (fresh_value given.sx 16 setting.value >>= λ sx. Ok (record given { sx = Some sx }))
     else Err kinds.Key

@@ -44,7 +44,8 @@ value_refusal twice value (Some bound) = if twice then Some kinds.Twice else if 
 
 -- why a setting is refused after the earlier ones of its line
 abbrev pub setting_refusal : ℕ → List Setting → Setting → Option ScriptKind
-setting_refusal slices earlier setting = value_refusal (is_some (value_of setting.key earlier)) setting.value (bound_of slices setting.key)
+setting_refusal slices earlier setting =
+    value_refusal (is_some (value_of setting.key earlier)) setting.value (bound_of slices setting.key)
 
 -- the first refusal of two
 abbrev pub or_else : Option ScriptKind → Option ScriptKind → Option ScriptKind

@@ -49,7 +49,8 @@ shown_text None = codes "-"
 -- the flags F, C and Z, the PR latch, its outputs, and the interrupt strobe
 abbrev pub control_text : ClockView → List ℕ
 control_text view =
-    codes " C=" ++ (bit_digit view.f ∷ bit_digit view.c ∷ bit_digit view.z ∷ []) ++ codes " L=" ++ (hex_digit view.pr ∷ []) ++ codes " P=" ++ shown_text view.pr_out
+    codes " C=" ++ (bit_digit view.f ∷ bit_digit view.c ∷ bit_digit view.z ∷ []) ++ codes " L=" ++ (hex_digit view.pr ∷ []) ++ codes " P="
+    ++ shown_text view.pr_out
     ++ codes " S=" ++ (bit_digit view.ise ∷ [])
 
 -- the user fields in declared order, or `-` where there is none
@@ -66,4 +67,5 @@ fields_and_links_text slices values links = codes " U=" ++ fields_text values ++
 -- the line of a clock at a place, for an array of this many slices
 unfoldable pub trace_line : List ℕ → ClockView → ℕ → List ℕ
 trace_line place view slices =
-    place_text place view.clock ++ registers_text slices view.regs ++ control_text view ++ fields_and_links_text slices view.values view.links ++ codes "\n"
+    place_text place view.clock ++ registers_text slices view.regs ++ control_text view
+    ++ fields_and_links_text slices view.values view.links ++ codes "\n"

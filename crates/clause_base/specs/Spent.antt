@@ -23,7 +23,8 @@ AreNew list lines = (k : ℕ) (line : Line) → slice_get lines k ≡ Some line 
 pub record IsClash (clauses : List (List ℤ)) (clash : Clash) : Type 0 where
   pub apart : AllPairs (λ a b. var_of a ≢ var_of b) (lits_of clash.steps)
   pub decided : Any (λ e. e.reason ≡ 0) clash.steps
-  pub implied : (i : ℕ) (e : Entry) → slice_get clash.steps i ≡ Some e → 0 < e.reason → Forces (lits_of (take i clash.steps)) clauses e.reason e.lit
+  pub implied : (i : ℕ) (e : Entry) → slice_get clash.steps i ≡ Some e → 0 < e.reason
+      → Forces (lits_of (take i clash.steps)) clauses e.reason e.lit
   pub conflict : IsConflict (lits_of clash.steps) clauses clash.clause
 
 -- the budget is spent: there are so many lines, each derived, new and with a literal, and a clash of the list and
@@ -34,4 +35,5 @@ pub record Spent (list : Clauses) (lines : List Line) (clash : Clash) (budget : 
   pub full : All (λ line. line.clause ≢ []) lines
   pub new : AreNew list lines
   pub ends : IsClash (with_lines list lines).clauses clash
-  pub settled : (i : ℕ) (e : Entry) → slice_get clash.steps i ≡ Some e → e.reason ≡ 0 → AreSettled (lits_of (take i clash.steps)) (with_lines list lines).clauses
+  pub settled : (i : ℕ) (e : Entry) → slice_get clash.steps i ≡ Some e → e.reason ≡ 0
+      → AreSettled (lits_of (take i clash.steps)) (with_lines list lines).clauses

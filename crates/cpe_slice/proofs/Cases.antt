@@ -9,7 +9,8 @@ use Rattle.cpe_slice.specs.FunctionCode.{function_of, is_shift}
 use Rattle.cpe_slice.specs.WordStep.{Inputs, source_word, operand_a, operand_b, logic_word, test_word, sum_carry, or_carry, bit, result_word, link}
 
 -- the result in the shift
-pub result_shift : (n code : ℕ) (b : Inputs) (w : Registers) → is_shift code ≡ true → result_word n code b w ≡ source_word code b.m w / 2 + b.li * (4 ^ n / 2)
+pub result_shift : (n code : ℕ) (b : Inputs) (w : Registers) → is_shift code ≡ true
+    → result_word n code b w ≡ source_word code b.m w / 2 + b.li * (4 ^ n / 2)
 unfolding result_word
 result_shift n code b w e = rw e
 
@@ -26,7 +27,8 @@ unfolding result_word
 result_logic n code b w e f = rw (e, f)
 
 -- a link in the shift
-pub link_shift : (n code : ℕ) (b : Inputs) (w : Registers) (j : ℕ) → is_shift code ≡ true → link n code b w j ≡ source_word code b.m w / 4 ^ j % 2
+pub link_shift : (n code : ℕ) (b : Inputs) (w : Registers) (j : ℕ) → is_shift code ≡ true
+    → link n code b w j ≡ source_word code b.m w / 4 ^ j % 2
 unfolding link
 link_shift n code b w j e = rw e
 
@@ -69,7 +71,8 @@ ored true t h = grind (arith, nat_tests)
 ored false t h = grind (arith, nat_tests)
 
 -- at one slice, CI or any bit of the test word is CO
-pub logic_co : (code : ℕ) (b : Inputs) (w : Registers) (c : Bool) (t : ℕ) → false ≡ is_shift code → 4 ≤ function_of code → t < 4 → b.ci ≡ bit c
+pub logic_co : (code : ℕ) (b : Inputs) (w : Registers) (c : Bool) (t : ℕ) → false ≡ is_shift code → 4 ≤ function_of code → t < 4
+    → b.ci ≡ bit c
     → t ≡ test_word code b w → bit (c || not (nat_eq t 0)) ≡ (if is_shift code then 0 else link 1 code b w 0)
 unfolding or_carry
 logic_co code b w c t e f h r p = rw (← e, link_logic 1 code b w 0 (sym e) (le-ltb _ _ f), ← p, r) (ored c t h)

@@ -125,55 +125,68 @@ pub result_of_7_3 : (n code : ℕ) (b : Inputs) (w : Registers) → function_of 
 unfolding result_word operand_a operand_b logic_word source_word masked_word is_shift
 result_of_7_3 n code b w f g = rw (f, g) refl
 
-pub test_word_of_4_1 : (code : ℕ) (b : Inputs) (w : Registers) → function_of code ≡ 4 → group_of code ≡ 1 → test_word code b w ≡ bit_and (get w (register_of code)) (bit_and w.ac b.k)
+pub test_word_of_4_1 : (code : ℕ) (b : Inputs) (w : Registers) → function_of code ≡ 4 → group_of code ≡ 1
+    → test_word code b w ≡ bit_and (get w (register_of code)) (bit_and w.ac b.k)
 unfolding test_word source_word masked_word
 test_word_of_4_1 code b w f g = rw (f, g) refl
 
-pub test_word_of_4_2 : (code : ℕ) (b : Inputs) (w : Registers) → function_of code ≡ 4 → group_of code ≡ 2 → test_word code b w ≡ bit_and b.m (bit_and w.ac b.k)
+pub test_word_of_4_2 : (code : ℕ) (b : Inputs) (w : Registers) → function_of code ≡ 4 → group_of code ≡ 2
+    → test_word code b w ≡ bit_and b.m (bit_and w.ac b.k)
 unfolding test_word source_word masked_word
 test_word_of_4_2 code b w f g = rw (f, g) refl
 
-pub test_word_of_4_3 : (code : ℕ) (b : Inputs) (w : Registers) → function_of code ≡ 4 → group_of code ≡ 3 → test_word code b w ≡ bit_and (get w (register_of code)) (bit_and b.i b.k)
+pub test_word_of_4_3 : (code : ℕ) (b : Inputs) (w : Registers) → function_of code ≡ 4 → group_of code ≡ 3
+    → test_word code b w ≡ bit_and (get w (register_of code)) (bit_and b.i b.k)
 unfolding test_word source_word masked_word
 test_word_of_4_3 code b w f g = rw (f, g) refl
 
-pub test_word_of_5_1 : (code : ℕ) (b : Inputs) (w : Registers) → function_of code ≡ 5 → group_of code ≡ 1 → test_word code b w ≡ bit_and b.k (get w (register_of code))
+pub test_word_of_5_1 : (code : ℕ) (b : Inputs) (w : Registers) → function_of code ≡ 5 → group_of code ≡ 1
+    → test_word code b w ≡ bit_and b.k (get w (register_of code))
 unfolding test_word source_word masked_word
 test_word_of_5_1 code b w f g = rw (f, g) refl
 
-pub test_word_of_5_2 : (code : ℕ) (b : Inputs) (w : Registers) → function_of code ≡ 5 → group_of code ≡ 2 → test_word code b w ≡ bit_and b.k b.m
+pub test_word_of_5_2 : (code : ℕ) (b : Inputs) (w : Registers) → function_of code ≡ 5 → group_of code ≡ 2
+    → test_word code b w ≡ bit_and b.k b.m
 unfolding test_word source_word masked_word
 test_word_of_5_2 code b w f g = rw (f, g) refl
 
-pub test_word_of_5_3 : (code : ℕ) (b : Inputs) (w : Registers) → function_of code ≡ 5 → group_of code ≡ 3 → test_word code b w ≡ bit_and b.k (get w (register_of code))
+pub test_word_of_5_3 : (code : ℕ) (b : Inputs) (w : Registers) → function_of code ≡ 5 → group_of code ≡ 3
+    → test_word code b w ≡ bit_and b.k (get w (register_of code))
 unfolding test_word source_word masked_word
 test_word_of_5_3 code b w f g = rw (f, g) refl
 
-pub test_word_of_6_1 : (code : ℕ) (b : Inputs) (w : Registers) → function_of code ≡ 6 → group_of code ≡ 1 → test_word code b w ≡ bit_and w.ac b.k
+pub test_word_of_6_1 : (code : ℕ) (b : Inputs) (w : Registers) → function_of code ≡ 6 → group_of code ≡ 1
+    → test_word code b w ≡ bit_and w.ac b.k
 unfolding test_word source_word masked_word
 test_word_of_6_1 code b w f g = rw (f, g) refl
 
-pub test_word_of_6_2 : (code : ℕ) (b : Inputs) (w : Registers) → function_of code ≡ 6 → group_of code ≡ 2 → test_word code b w ≡ bit_and w.ac b.k
+pub test_word_of_6_2 : (code : ℕ) (b : Inputs) (w : Registers) → function_of code ≡ 6 → group_of code ≡ 2
+    → test_word code b w ≡ bit_and w.ac b.k
 unfolding test_word source_word masked_word
 test_word_of_6_2 code b w f g = rw (f, g) refl
 
-pub test_word_of_6_3 : (code : ℕ) (b : Inputs) (w : Registers) → function_of code ≡ 6 → group_of code ≡ 3 → test_word code b w ≡ bit_and b.i b.k
+pub test_word_of_6_3 : (code : ℕ) (b : Inputs) (w : Registers) → function_of code ≡ 6 → group_of code ≡ 3
+    → test_word code b w ≡ bit_and b.i b.k
 unfolding test_word source_word masked_word
 test_word_of_6_3 code b w f g = rw (f, g) refl
 
-pub test_word_of_7_1 : (code : ℕ) (b : Inputs) (w : Registers) → function_of code ≡ 7 → group_of code ≡ 1 → test_word code b w ≡ bit_and (get w (register_of code)) (bit_and w.ac b.k)
+pub test_word_of_7_1 : (code : ℕ) (b : Inputs) (w : Registers) → function_of code ≡ 7 → group_of code ≡ 1
+    → test_word code b w ≡ bit_and (get w (register_of code)) (bit_and w.ac b.k)
 unfolding test_word source_word masked_word
 test_word_of_7_1 code b w f g = rw (f, g) refl
 
-pub test_word_of_7_2 : (code : ℕ) (b : Inputs) (w : Registers) → function_of code ≡ 7 → group_of code ≡ 2 → test_word code b w ≡ bit_and b.m (bit_and w.ac b.k)
+pub test_word_of_7_2 : (code : ℕ) (b : Inputs) (w : Registers) → function_of code ≡ 7 → group_of code ≡ 2
+    → test_word code b w ≡ bit_and b.m (bit_and w.ac b.k)
 unfolding test_word source_word masked_word
 test_word_of_7_2 code b w f g = rw (f, g) refl
 
-pub test_word_of_7_3 : (code : ℕ) (b : Inputs) (w : Registers) → function_of code ≡ 7 → group_of code ≡ 3 → test_word code b w ≡ bit_and (get w (register_of code)) (bit_and b.i b.k)
+pub test_word_of_7_3 : (code : ℕ) (b : Inputs) (w : Registers) → function_of code ≡ 7 → group_of code ≡ 3
+    → test_word code b w ≡ bit_and (get w (register_of code)) (bit_and b.i b.k)
 unfolding test_word source_word masked_word
 test_word_of_7_3 code b w f g = rw (f, g) refl
 
-pub mar_of_1_1 : (code : ℕ) (b : Inputs) (w : Registers) → function_of code ≡ 1 → group_of code ≡ 1 → mar_after code b w ≡ bit_or b.k (get w (register_of code))
+pub mar_of_1_1 : (code : ℕ) (b : Inputs) (w : Registers) → function_of code ≡ 1 → group_of code ≡ 1
+    → mar_after code b w ≡ bit_or b.k (get w (register_of code))
 unfolding mar_after source_word
 mar_of_1_1 code b w f g = rw (f, g) refl
 

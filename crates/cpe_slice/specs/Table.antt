@@ -9,7 +9,8 @@ use Rattle.cpe_slice.specs.WordStep.{Inputs, result_word, test_word, mar_after}
 -- in this function and group the result is this
 abbrev pub ResultIs : ℕ → ℕ → (ℕ → ℕ → Inputs → Registers → ℕ) → Type 0
 ResultIs function group value =
-    (n code : ℕ) (b : Inputs) (w : Registers) → function_of code ≡ function → group_of code ≡ group → result_word n code b w ≡ value n code b w
+    (n code : ℕ) (b : Inputs) (w : Registers) → function_of code ≡ function → group_of code ≡ group
+    → result_word n code b w ≡ value n code b w
 
 -- in this function and group the word that the OR chain tests is this
 abbrev pub TestWordIs : ℕ → ℕ → (ℕ → Inputs → Registers → ℕ) → Type 0
@@ -28,7 +29,8 @@ pub record TableOfResults : Type 0 where
   pub function_0_group_3 : ResultIs 0 3 (λ n code b w. get w (register_of code) / 2 + b.li * (4 ^ n / 2))
   pub function_1_group_1 : ResultIs 1 1 (λ n code b w. (get w (register_of code) + b.k + b.ci) % 4 ^ n)
   pub function_1_group_2 : ResultIs 1 2 (λ n code b w. (b.m + b.k + b.ci) % 4 ^ n)
-  pub function_1_group_3 : ResultIs 1 3 (λ n code b w. (bit_or (4 ^ n - 1 - get w (register_of code)) b.k + bit_and (get w (register_of code)) b.k + b.ci) % 4 ^ n)
+  pub function_1_group_3 : ResultIs 1 3
+      (λ n code b w. (bit_or (4 ^ n - 1 - get w (register_of code)) b.k + bit_and (get w (register_of code)) b.k + b.ci) % 4 ^ n)
   pub function_2_group_1 : ResultIs 2 1 (λ n code b w. (bit_and w.ac b.k + (4 ^ n - 1) + b.ci) % 4 ^ n)
   pub function_2_group_2 : ResultIs 2 2 (λ n code b w. (bit_and w.ac b.k + (4 ^ n - 1) + b.ci) % 4 ^ n)
   pub function_2_group_3 : ResultIs 2 3 (λ n code b w. (bit_and b.i b.k + (4 ^ n - 1) + b.ci) % 4 ^ n)

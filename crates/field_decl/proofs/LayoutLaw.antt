@@ -23,7 +23,8 @@ first_push [] y = refl
 first_push (x ∷ xs) y = refl
 
 -- one directive more
-pub declared_push : (earlier : List Directive) (directive : Directive) → declared_by (earlier ++ directive ∷ []) ≡ with_directive (declared_by earlier) directive
+pub declared_push : (earlier : List Directive) (directive : Directive)
+    → declared_by (earlier ++ directive ∷ []) ≡ with_directive (declared_by earlier) directive
 declared_push earlier (Slices slices) = simp (filter_map-append, first_push, append-nil)
 declared_push earlier (KBus kbus) = simp (filter_map-append, first_push, append-nil)
 declared_push earlier (Field name width default) = simp (filter_map-append, first_push, append-nil)
@@ -39,8 +40,10 @@ said_nothing : (earlier : List (Option Directive)) → declares (earlier ++ None
 said_nothing earlier = ap declared_by (filter_map-append (λ line. line) earlier (None ∷ []) ∙ append-nil (directives_in earlier))
 
 -- a line with a directive adds it
-said_one : (earlier : List (Option Directive)) (directive : Directive) → declares (earlier ++ Some directive ∷ []) ≡ with_directive (declares earlier) directive
-said_one earlier directive = ap declared_by (filter_map-append (λ line. line) earlier (Some directive ∷ [])) ∙ declared_push (directives_in earlier) directive
+said_one : (earlier : List (Option Directive)) (directive : Directive)
+    → declares (earlier ++ Some directive ∷ []) ≡ with_directive (declares earlier) directive
+said_one earlier directive = ap declared_by (filter_map-append (λ line. line) earlier (Some directive ∷ []))
+    ∙ declared_push (directives_in earlier) directive
 
 abbrev ok_declared : Declared → Result Declared AsmKind
 ok_declared declared = Ok declared
@@ -55,24 +58,28 @@ judged_one earlier directive None = ap ok_declared (sym (said_one earlier direct
 judged_one earlier directive (Some kind) = refl
 
 -- a line is taken as it is judged
-judged_line : (earlier : List (Option Directive)) (read : Option Directive) → line_judged (declares earlier) read ≡ (unless_refused (line_refusal earlier read) read >>= after earlier)
+judged_line : (earlier : List (Option Directive)) (read : Option Directive)
+    → line_judged (declares earlier) read ≡ (unless_refused (line_refusal earlier read) read >>= after earlier)
 judged_line earlier None = ap ok_declared (sym (said_nothing earlier))
 judged_line earlier (Some directive) = judged_one earlier directive (refusal (declares earlier) directive)
 
 -- and so is its form
 formed_line : (earlier : List (Option Directive)) (formed : Result (Option Directive) AsmKind)
-    → (formed >>= line_judged (declares earlier)) ≡ ((formed >>= λ read. unless_refused (line_refusal earlier read) read) >>= after earlier)
+    → (formed >>= line_judged (declares earlier))
+    ≡ ((formed >>= λ read. unless_refused (line_refusal earlier read) read) >>= after earlier)
 formed_line earlier (Ok read) = judged_line earlier read
 formed_line earlier (Err kind) = refl
 
 -- and so are its words
 worded_line : (earlier : List (Option Directive)) (words : Result (List Word) AsmKind)
-    → (words >>= line_form >>= line_judged (declares earlier)) ≡ ((words >>= line_form >>= λ read. unless_refused (line_refusal earlier read) read) >>= after earlier)
+    → (words >>= line_form >>= line_judged (declares earlier))
+    ≡ ((words >>= line_form >>= λ read. unless_refused (line_refusal earlier read) read) >>= after earlier)
 worded_line earlier (Ok words) = formed_line earlier (line_form words)
 worded_line earlier (Err kind) = refl
 
 -- a line is taken into what is declared as it is read after the lines before it
-taken : (earlier : List (Option Directive)) (line : List ℕ) → after_line (declares earlier) line ≡ (line_read earlier line >>= after earlier)
+taken : (earlier : List (Option Directive)) (line : List ℕ)
+    → after_line (declares earlier) line ≡ (line_read earlier line >>= after earlier)
 unfolding after_line line_read
 taken earlier line = worded_line earlier (words_of line)
 
@@ -81,39 +88,49 @@ all_read read = Ok (declares read)
 
 -- the lines behind a line that is read
 goes_on : (earlier : List (Option Directive)) (rest : List (List ℕ)) (number : ℕ)
-    → ((read : Option Directive) → after_lines (declares (earlier ++ read ∷ [])) (number + 1) rest ≡ (lines_read (earlier ++ read ∷ []) rest >>= all_read))
+    → ((read : Option Directive)
+    → after_lines (declares (earlier ++ read ∷ [])) (number + 1) rest ≡ (lines_read (earlier ++ read ∷ []) rest >>= all_read))
     → (read : Result (Option Directive) AsmKind)
-    → (in_line number (read >>= after earlier) >>= λ more. after_lines more (number + 1) rest) ≡ ((in_line number read >>= λ said. lines_read (earlier ++ said ∷ []) rest) >>= all_read)
+    → (in_line number (read >>= after earlier) >>= λ more. after_lines more (number + 1) rest)
+    ≡ ((in_line number read >>= λ said. lines_read (earlier ++ said ∷ []) rest) >>= all_read)
 goes_on earlier rest number more (Ok read) = more read
 goes_on earlier rest number more (Err kind) = refl
 
 -- all lines are taken as they are read
-lines_taken : (earlier : List (Option Directive)) (rest : List (List ℕ)) → after_lines (declares earlier) (length earlier + 1) rest ≡ (lines_read earlier rest >>= all_read)
+lines_taken : (earlier : List (Option Directive)) (rest : List (List ℕ))
+    → after_lines (declares earlier) (length earlier + 1) rest ≡ (lines_read earlier rest >>= all_read)
 unfolding after_lines lines_read
 lines_taken earlier [] = refl
 lines_taken earlier (line ∷ rest) =
-    ap (λ (r : Result Declared AsmKind). in_line (length earlier + 1) r >>= λ more. after_lines more (length earlier + 1 + 1) rest) (taken earlier line)
-    ∙ goes_on earlier rest (length earlier + 1) (λ read. ap (λ (k : ℕ). after_lines (declares (earlier ++ read ∷ [])) k rest) (omega (arith, length-append earlier (read ∷ []))) ∙ lines_taken (earlier ++ read ∷ []) rest) (line_read earlier line)
+    ap (λ (r : Result Declared AsmKind). in_line (length earlier + 1) r >>= λ more. after_lines more (length earlier + 1 + 1) rest)
+    (taken earlier line)
+    ∙ goes_on earlier rest (length earlier + 1)
+    (λ read. ap (λ (k : ℕ). after_lines (declares (earlier ++ read ∷ [])) k rest) (omega (arith, length-append earlier (read ∷ [])))
+    ∙ lines_taken (earlier ++ read ∷ []) rest) (line_read earlier line)
 
 abbrev pub finishing : Declared → Result Declaration (ℕ × AsmKind)
 finishing declared = in_line 0 (completed declared)
 
 -- and then completed
-finished : (read : Result (List (Option Directive)) (ℕ × AsmKind)) → (read >>= λ all. in_line 0 (completed (declares all))) ≡ ((read >>= all_read) >>= finishing)
+finished : (read : Result (List (Option Directive)) (ℕ × AsmKind))
+    → (read >>= λ all. in_line 0 (completed (declares all))) ≡ ((read >>= all_read) >>= finishing)
 finished (Ok all) = refl
 finished (Err refused) = refl
 
 -- a layout is what its lines declare one after the other, completed
 pub layout_is : (bytes : List ℕ) → layout_of bytes ≡ (after_lines (declared_by []) 1 (lines bytes) >>= finishing)
-layout_is bytes = finished (lines_read [] (lines bytes)) ∙ ap (λ (r : Result Declared (ℕ × AsmKind)). r >>= finishing) (sym (lines_taken [] (lines bytes)))
+layout_is bytes = finished (lines_read [] (lines bytes))
+    ∙ ap (λ (r : Result Declared (ℕ × AsmKind)). r >>= finishing) (sym (lines_taken [] (lines bytes)))
 
 -- ---- what `read_decl` needs
 
 -- what refuses a line refuses the layout
-pub refused_in : (fault : Refusal AsmKind) (bytes : List ℕ) → RefusesAt fault (after_lines (declared_by []) 1 (lines bytes)) → RefusesAt fault (layout_of bytes)
+pub refused_in : (fault : Refusal AsmKind) (bytes : List ℕ) → RefusesAt fault (after_lines (declared_by []) 1 (lines bytes))
+    → RefusesAt fault (layout_of bytes)
 refused_in faults.OutOfMemory bytes h = tt
 refused_in (faults.At line kind) bytes h = layout_is bytes ∙ ap (λ (r : Result Declared (ℕ × AsmKind)). r >>= finishing) h
 
 -- what the lines declare is completed
-pub completed_in : (declared : Declared) (bytes : List ℕ) → after_lines (declared_by []) 1 (lines bytes) ≡ Ok declared → layout_of bytes ≡ in_line 0 (completed declared)
+pub completed_in : (declared : Declared) (bytes : List ℕ) → after_lines (declared_by []) 1 (lines bytes) ≡ Ok declared
+    → layout_of bytes ≡ in_line 0 (completed declared)
 completed_in declared bytes h = layout_is bytes ∙ ap (λ (r : Result Declared (ℕ × AsmKind)). r >>= finishing) h

@@ -10,7 +10,9 @@ use Rattle.field_decl.specs.NameBytes.{IsPadded}
 pub name_pads : (text : List ℕ) → IsName text → IsPadded (text ++ drop (length text) (replicate 32 0)) (length text)
 name_pads text name = record {
   short = name.short;
-  full = (let short : length text ≤ 32 = name.short in omega (arith, short, length-append text (drop (length text) (replicate 32 0)), length-drop {A = ℕ} (length text) (replicate 32 0)));
-  whole = rw (take-append_seam text (drop (length text) (replicate 32 0))) (ap (λ (zeros : List ℕ). text ++ zeros) (drop-replicate (length text) 32 0));
+  full = (let short : length text ≤ 32 = name.short in
+      omega (arith, short, length-append text (drop (length text) (replicate 32 0)), length-drop {A = ℕ} (length text) (replicate 32 0)));
+  whole = rw (take-append_seam text (drop (length text) (replicate 32 0)))
+      (ap (λ (zeros : List ℕ). text ++ zeros) (drop-replicate (length text) 32 0));
   name = subst (λ (bytes : List ℕ). IsName bytes) (sym (take-append_seam text (drop (length text) (replicate 32 0)))) name;
 }

@@ -28,14 +28,16 @@ use Rattle.field_decl.specs.Spaced.{Run, IsRun, AreRuns, spaced, after_space, to
 -- ---- tokens
 
 -- a run goes as far as it is written, where no byte of a run follows
-run_len : (run rest : List ℕ) → list_all is_run_byte run ≡ true → prefix_len is_run_byte rest ≡ 0 → prefix_len is_run_byte (run ++ rest) ≡ length run
+run_len : (run rest : List ℕ) → list_all is_run_byte run ≡ true → prefix_len is_run_byte rest ≡ 0
+    → prefix_len is_run_byte (run ++ rest) ≡ length run
 run_len [] rest h z = z
 run_len (b ∷ bs) rest h z =
     let both = and_parts (is_run_byte b) (list_all is_run_byte bs) h in
     rw both.0 (let more = run_len bs rest both.1 z in omega (arith, more))
 
 -- and is taken whole
-run_taken : (run rest : List ℕ) → list_all is_run_byte run ≡ true → prefix_len is_run_byte rest ≡ 0 → take_while is_run_byte (run ++ rest) ≡ run
+run_taken : (run rest : List ℕ) → list_all is_run_byte run ≡ true → prefix_len is_run_byte rest ≡ 0
+    → take_while is_run_byte (run ++ rest) ≡ run
 run_taken run rest h z = ap (λ (n : ℕ). take n (run ++ rest)) (run_len run rest h z) ∙ take-append_seam run rest
 
 -- a byte of a run is no space and begins no comment
@@ -43,19 +45,26 @@ plain_byte : (b : ℕ) → is_run_byte b ≡ true → (is_hash b ≡ false) × (
 plain_byte b w = (grind arith, grind arith)
 
 -- a run at the front gives its token
-pub run_front : (place : ℕ) (run rest : List ℕ) (kind : TokenKind) → 0 < length run → list_all is_run_byte run ≡ true → prefix_len is_run_byte rest ≡ 0 → run_kind run ≡ Ok kind
-    → scan false place (run ++ rest) ≡ with_front (record { kind = kind; start = place; end = place + length run } ∷ []) (scan false (place + length run) rest)
+pub run_front : (place : ℕ) (run rest : List ℕ) (kind : TokenKind) → 0 < length run → list_all is_run_byte run ≡ true
+    → prefix_len is_run_byte rest ≡ 0 → run_kind run ≡ Ok kind
+    → scan false place (run ++ rest) ≡ with_front (record { kind = kind; start = place; end = place + length run } ∷ [])
+    (scan false (place + length run) rest)
 run_front place [] rest kind some h z reads = absurd (omega arith)
 run_front place (b ∷ bs) rest kind some h z reads =
     let both = and_parts (is_run_byte b) (list_all is_run_byte bs) h in
     let plain = plain_byte b both.0 in
     let run : List ℕ = take_while is_run_byte (b ∷ bs ++ rest) in
     scan_begins place b (bs ++ rest) plain.0
-    ∙ ap (λ (r : Result (Option Token) Cause). with_reading (in_column (place + 1) r) (scan (is_run_byte b) (place + 1) (bs ++ rest))) (begins_run place b (bs ++ rest) plain.1 both.0)
-    ∙ ap (with_reading (in_column (place + 1) (spanned place (place + length run) (run_kind run)))) (ap (λ (x : Bool). scan x (place + 1) (bs ++ rest)) both.0 ∙ past_first_run place b (bs ++ rest) both.0)
-    ∙ ap (λ (r : List ℕ). with_reading (in_column (place + 1) (spanned place (place + length r) (run_kind r))) (scan false (place + length r) (drop (length r) (b ∷ bs ++ rest)))) (run_taken (b ∷ bs) rest h z)
-    ∙ ap (λ (k : Result TokenKind Cause). with_reading (in_column (place + 1) (spanned place (place + length (b ∷ bs)) k)) (scan false (place + length (b ∷ bs)) (drop (length (b ∷ bs)) (b ∷ bs ++ rest)))) reads
-    ∙ ap (λ (xs : List ℕ). with_front (record { kind = kind; start = place; end = place + length (b ∷ bs) } ∷ []) (scan false (place + length (b ∷ bs)) xs)) (drop-append_seam (b ∷ bs) rest)
+    ∙ ap (λ (r : Result (Option Token) Cause). with_reading (in_column (place + 1) r) (scan (is_run_byte b) (place + 1) (bs ++ rest)))
+    (begins_run place b (bs ++ rest) plain.1 both.0)
+    ∙ ap (with_reading (in_column (place + 1) (spanned place (place + length run) (run_kind run))))
+    (ap (λ (x : Bool). scan x (place + 1) (bs ++ rest)) both.0 ∙ past_first_run place b (bs ++ rest) both.0)
+    ∙ ap (λ (r : List ℕ). with_reading (in_column (place + 1) (spanned place (place + length r) (run_kind r)))
+    (scan false (place + length r) (drop (length r) (b ∷ bs ++ rest)))) (run_taken (b ∷ bs) rest h z)
+    ∙ ap (λ (k : Result TokenKind Cause). with_reading (in_column (place + 1) (spanned place (place + length (b ∷ bs)) k))
+    (scan false (place + length (b ∷ bs)) (drop (length (b ∷ bs)) (b ∷ bs ++ rest)))) reads
+    ∙ ap (λ (xs : List ℕ). with_front (record { kind = kind; start = place; end = place + length (b ∷ bs) } ∷ [])
+    (scan false (place + length (b ∷ bs)) xs)) (drop-append_seam (b ∷ bs) rest)
 
 -- after a run comes a space or nothing
 no_run_after : (runs : List Run) → prefix_len is_run_byte (after_space runs) ≡ 0
@@ -85,22 +94,30 @@ gives_tokens runs all = line_scanned (spaced runs) ∙ scanned 0 runs all
 -- ---- the text of each token
 
 -- the text between the places of a token
-pub text_of : (line front text rest : List ℕ) (place : ℕ) → line ≡ front ++ (text ++ rest) → place ≡ length front → slice_range line place (place + length text) ≡ text
+pub text_of : (line front text rest : List ℕ) (place : ℕ) → line ≡ front ++ (text ++ rest) → place ≡ length front
+    → slice_range line place (place + length text) ≡ text
 text_of line front text rest place is at =
     let n : place + length text - place ≡ length text = omega arith in
     ap (λ (m : ℕ). take m (drop place line)) n
-    ∙ ap (λ (xs : List ℕ). take (length text) xs) (ap (λ (xs : List ℕ). drop place xs) is ∙ ap (λ (k : ℕ). drop k (front ++ (text ++ rest))) at ∙ drop-append_seam front (text ++ rest))
+    ∙ ap (λ (xs : List ℕ). take (length text) xs)
+    (ap (λ (xs : List ℕ). drop place xs) is ∙ ap (λ (k : ℕ). drop k (front ++ (text ++ rest))) at
+    ∙ drop-append_seam front (text ++ rest))
     ∙ take-append_seam text rest
 
 -- each token is read by its kind and its text
-pub each_read : {W : Type 0} (f : TokenKind → List ℕ → W) (line front : List ℕ) (place : ℕ) (runs : List Run) → line ≡ front ++ spaced runs → place ≡ length front
+pub each_read : {W : Type 0} (f : TokenKind → List ℕ → W) (line front : List ℕ) (place : ℕ) (runs : List Run)
+    → line ≡ front ++ spaced runs → place ≡ length front
     → map (λ t. f t.kind (slice_range line t.start t.end)) (tokens_at place runs) ≡ map (λ run. f run.1 run.0) runs
 each_read {W} f line front place [] is at = refl
 each_read {W} f line front place (run ∷ []) is at = ap (λ (text : List ℕ). f run.1 text ∷ []) (text_of line front run.0 [] place is at)
 each_read {W} f line front place (run ∷ next ∷ runs) is at =
-    let longer : front ++ (run.0 ++ 32 ∷ (next.0 ++ after_space runs)) ≡ (front ++ (run.0 ++ 32 ∷ [])) ++ (next.0 ++ after_space runs) = simp append_assoc in
-    let more = each_read f line (front ++ (run.0 ++ 32 ∷ [])) (place + length run.0 + 1) (next ∷ runs) (is ∙ longer) (omega (arith, length-append front (run.0 ++ 32 ∷ []), length-append run.0 (32 ∷ []))) in
-    ap (λ (text : List ℕ). f run.1 text ∷ map (λ t. f t.kind (slice_range line t.start t.end)) (tokens_at (place + length run.0 + 1) (next ∷ runs))) (text_of line front run.0 (after_space (next ∷ runs)) place is at) ∙ ap (λ (ws : List W). f run.1 run.0 ∷ ws) more
+    let longer : front ++ (run.0 ++ 32 ∷ (next.0 ++ after_space runs)) ≡ (front ++ (run.0 ++ 32 ∷ [])) ++ (next.0 ++ after_space runs) =
+    simp append_assoc in
+    let more = each_read f line (front ++ (run.0 ++ 32 ∷ [])) (place + length run.0 + 1) (next ∷ runs) (is ∙ longer)
+    (omega (arith, length-append front (run.0 ++ 32 ∷ []), length-append run.0 (32 ∷ []))) in
+    ap (λ (text : List ℕ). f run.1 text ∷ map (λ t. f t.kind (slice_range line t.start t.end))
+    (tokens_at (place + length run.0 + 1) (next ∷ runs))) (text_of line front run.0 (after_space (next ∷ runs)) place is at)
+    ∙ ap (λ (ws : List W). f run.1 run.0 ∷ ws) more
 
 -- ---- one line
 
@@ -137,7 +154,8 @@ run_unbroken (b ∷ bs) h =
     byte b w = grind arith
 
 -- nor have two texts that have none
-pub both_unbroken : (xs ys : List ℕ) → list_all is_unbroken xs ≡ true → list_all is_unbroken ys ≡ true → list_all is_unbroken (xs ++ ys) ≡ true
+pub both_unbroken : (xs ys : List ℕ) → list_all is_unbroken xs ≡ true → list_all is_unbroken ys ≡ true
+    → list_all is_unbroken (xs ++ ys) ≡ true
 both_unbroken xs ys hx hy = list_all-append is_unbroken xs ys ∙ and_from (list_all is_unbroken xs) (list_all is_unbroken ys) hx hy
 
 -- nor have runs with spaces

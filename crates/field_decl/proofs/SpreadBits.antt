@@ -34,7 +34,8 @@ unfolding spread_bits gathered_bits
 gathered_spread s zero k h p = omega arith
 gathered_spread s (suc n) k h p =
     let below : k / 2 < 2 ^ n = omega (arith, pow-suc 2 n, p) in
-    rw (low_bit s k (spread_bits s n (k / 2)) h, other_bits s k (spread_bits s n (k / 2)), gathered_spread s n (k / 2) h below) (omega arith)
+    rw (low_bit s k (spread_bits s n (k / 2)) h, other_bits s k (spread_bits s n (k / 2)), gathered_spread s n (k / 2) h below)
+    (omega arith)
 
 -- a gathered number has n bits
 pub gathered_below : (s n m : ℕ) → gathered_bits s n m < 2 ^ n
@@ -63,7 +64,8 @@ spread_below s (suc n) k =
     let e : s * suc n ≡ s + s * n = omega arith in
     let p : 2 ^ (s * suc n) ≡ 2 ^ s * 2 ^ (s * n) = ap (λ (x : ℕ). 2 ^ x) e ∙ pow-add 2 s (s * n) in
     let low : k % 2 * (2 ^ s - 1) < 2 ^ s = lowest (k % 2) (2 ^ s) (pow_pos s) (omega arith) in
-    let h : spread_bits s n (k / 2) * 2 ^ s + k % 2 * (2 ^ s - 1) < 2 ^ s * 2 ^ (s * n) = bound (spread_bits s n (k / 2)) (k % 2 * (2 ^ s - 1)) (2 ^ s) (2 ^ (s * n)) (spread_below s n (k / 2)) low in
+    let h : spread_bits s n (k / 2) * 2 ^ s + k % 2 * (2 ^ s - 1) < 2 ^ s * 2 ^ (s * n) =
+    bound (spread_bits s n (k / 2)) (k % 2 * (2 ^ s - 1)) (2 ^ s) (2 ^ (s * n)) (spread_below s n (k / 2)) low in
     rw p (omega arith)
 
 -- a share is no wider than the bus
@@ -84,7 +86,8 @@ halved k j = rw (pow-suc, ← div-div-eq-div-mul k (2 ^ j) 2)
 
 -- ---- the loop that spreads
 
-pub spread_turn : (s count k j mask b : ℕ) → suc j ≤ count → s * count ≤ 32 → b ≡ k / 2 ^ j % 2 → mask ≡ spread_bits s (count - suc j) (k / 2 ^ suc j)
+pub spread_turn : (s count k j mask b : ℕ) → suc j ≤ count → s * count ≤ 32 → b ≡ k / 2 ^ j % 2
+    → mask ≡ spread_bits s (count - suc j) (k / 2 ^ suc j)
     → mask * 2 ^ s % 18446744073709551616 + b * (1 * 2 ^ s % 18446744073709551616 - 1) ≡ spread_bits s (count - j) (k / 2 ^ j)
 unfolding spread_bits
 spread_turn s count k j mask b h narrow eb e =
@@ -125,7 +128,8 @@ spread_done s count k j mask z e =
 -- ---- the loop that gathers
 
 -- one K bit more
-pub gathered_turn : (s count mask j kbits b : ℕ) → suc j ≤ count → b ≡ mask / 2 ^ (j * s) % 2 → kbits ≡ gathered_bits s (count - suc j) (mask / 2 ^ (suc j * s))
+pub gathered_turn : (s count mask j kbits b : ℕ) → suc j ≤ count → b ≡ mask / 2 ^ (j * s) % 2
+    → kbits ≡ gathered_bits s (count - suc j) (mask / 2 ^ (suc j * s))
     → 2 * kbits + b ≡ gathered_bits s (count - j) (mask / 2 ^ (j * s))
 unfolding gathered_bits
 gathered_turn s count mask j kbits b h eb e =
@@ -133,7 +137,8 @@ gathered_turn s count mask j kbits b h eb e =
     let c : count - j ≡ suc r = omega arith in
     let sum : suc j * s ≡ j * s + s = omega arith in
     let power : 2 ^ (suc j * s) ≡ 2 ^ (j * s) * 2 ^ s = ap (λ (x : ℕ). 2 ^ x) sum ∙ pow-add 2 (j * s) s in
-    let rest : mask / 2 ^ (suc j * s) ≡ mask / 2 ^ (j * s) / 2 ^ s = ap (λ (x : ℕ). mask / x) power ∙ sym (div-div-eq-div-mul mask (2 ^ (j * s)) (2 ^ s)) in
+    let rest : mask / 2 ^ (suc j * s) ≡ mask / 2 ^ (j * s) / 2 ^ s = ap (λ (x : ℕ). mask / x) power
+    ∙ sym (div-div-eq-div-mul mask (2 ^ (j * s)) (2 ^ s)) in
     rw (c, eb, e, rest) (omega arith)
 
 -- no K bits yet
@@ -155,5 +160,6 @@ gathered_fits s count mask j h narrow =
     omega (arith, gathered_below s (count - j) mask)
 
 -- K bits that give a mask are the gathered ones
-pub gathers_back : (s count mask kbits k : ℕ) → 0 < s → k < 2 ^ count → spread_bits s count k ≡ mask → kbits ≡ gathered_bits s count mask → kbits ≡ k
+pub gathers_back : (s count mask kbits k : ℕ) → 0 < s → k < 2 ^ count → spread_bits s count k ≡ mask → kbits ≡ gathered_bits s count mask
+    → kbits ≡ k
 gathers_back s count mask kbits k some few spread e = e ∙ ap (gathered_bits s count) (sym spread) ∙ gathered_spread s count k some few

@@ -68,7 +68,8 @@ given_or None y = Some y
 abbrev pub with_directive : Declared → Directive → Declared
 with_directive declared (directives.Slices slices) = record declared { slices = given_or declared.slices slices }
 with_directive declared (directives.KBus kbus) = record declared { kbus = given_or declared.kbus kbus }
-with_directive declared (directives.Field name width default) = record declared { fields = declared.fields ++ record { name = name; width = width; default = default } ∷ [] }
+with_directive declared (directives.Field name width default) =
+    record declared { fields = declared.fields ++ record { name = name; width = width; default = default } ∷ [] }
 with_directive declared (directives.Prom words bits) = record declared { prom = given_or declared.prom (words, bits) }
 with_directive declared (directives.Write name) = record declared { write = given_or declared.write name }
 

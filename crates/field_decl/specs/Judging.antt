@@ -32,11 +32,13 @@ field_refusal declared name width default =
 
 -- given before, or not 512 words of 4 or 8 bits
 abbrev pub prom_refusal : Declared → ℕ → ℕ → Option AsmKind
-prom_refusal declared words bits = if is_some declared.prom || not (words == 512 && (bits == 4 || bits == 8)) then Some kinds.Prom else None
+prom_refusal declared words bits =
+    if is_some declared.prom || not (words == 512 && (bits == 4 || bits == 8)) then Some kinds.Prom else None
 
 -- given before, or no field of that name and one bit declared above
 abbrev pub write_refusal : Declared → List ℕ → Option AsmKind
-write_refusal declared name = if is_some declared.write || not (list_any (can_write name) declared.fields) then Some kinds.WriteField else None
+write_refusal declared name =
+    if is_some declared.write || not (list_any (can_write name) declared.fields) then Some kinds.WriteField else None
 
 -- the first test that a directive fails after these
 unfoldable pub refusal : Declared → Directive → Option AsmKind

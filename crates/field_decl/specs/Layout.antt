@@ -41,7 +41,8 @@ line_read earlier line = words_of line >>= line_form >>= λ read. unless_refused
 -- what these and the further lines say, or the first line that is refused, by its number
 unfoldable pub lines_read : List (Option Directive) → List (List ℕ) → Result (List (Option Directive)) (ℕ × AsmKind)
 lines_read earlier [] = Ok earlier
-lines_read earlier (line ∷ rest) = in_line (length earlier + 1) (line_read earlier line) >>= λ read. lines_read (earlier ++ read ∷ []) rest
+lines_read earlier (line ∷ rest) =
+    in_line (length earlier + 1) (line_read earlier line) >>= λ read. lines_read (earlier ++ read ∷ []) rest
 
 -- the slices have no default
 abbrev pub completed_with : Option ℕ → Declared → Result Declaration AsmKind

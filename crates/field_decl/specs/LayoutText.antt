@@ -55,4 +55,6 @@ write_text (Some place) fields = write_line (slice_get fields place)
 -- slices, K bus, fields, PROMs, and the write field where there is one
 unfoldable pub layout_text : Declaration → List ℕ
 layout_text decl =
-    printed (slices_runs decl.slices) ++ (printed (kbus_runs decl.kbus) ++ (fields_text decl.fields ++ (printed (prom_runs decl.prom_words decl.prom_bits) ++ write_text decl.write decl.fields)))
+    printed (slices_runs decl.slices)
+    ++ (printed (kbus_runs decl.kbus)
+    ++ (fields_text decl.fields ++ (printed (prom_runs decl.prom_words decl.prom_bits) ++ write_text decl.write decl.fields)))

@@ -33,4 +33,5 @@ spaced (run ∷ runs) = run.0 ++ after_space runs
 -- their tokens, the first at this place
 abbrev pub tokens_at : ℕ → List Run → List Token
 tokens_at place [] = []
-tokens_at place (run ∷ runs) = record { kind = run.1; start = place; end = place + length run.0 } ∷ tokens_at (place + length run.0 + 1) runs
+tokens_at place (run ∷ runs) =
+    record { kind = run.1; start = place; end = place + length run.0 } ∷ tokens_at (place + length run.0 + 1) runs

@@ -16,4 +16,10 @@ pub record Graph : Type 0 where
 
 -- the graph of a program
 abbrev pub graph_of : Program → Graph
-graph_of program = record { decl = declaration_of program.decl; rows = program.rows; start = program.start; pins = program.pins; instrs = program.instrs }
+graph_of program = record {
+  decl = declaration_of program.decl;
+  rows = program.rows;
+  start = program.start;
+  pins = program.pins;
+  instrs = program.instrs;
+}

@@ -9,7 +9,8 @@ use Rattle.flow_graph.specs.declared.instructions.Instr.{Instr}
 -- there is a value for each field, and the field holds it
 pub record AreValues (fields : List Field) (values : List ℕ) : Type 0 where
   pub value_for_each : length values ≡ length fields
-  pub held : (place value : ℕ) (field : Field) → slice_get fields place ≡ Some field → slice_get values place ≡ Some value → value < 2 ^ field.width
+  pub held : (place value : ℕ) (field : Field) → slice_get fields place ≡ Some field → slice_get values place ≡ Some value
+      → value < 2 ^ field.width
 
 -- an instruction of this declaration: some K bits give its mask, and that of the right shift is 0
 pub record FitsDeclaration (decl : Declaration) (instr : Instr) : Type 0 where

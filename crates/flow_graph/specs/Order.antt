@@ -38,7 +38,12 @@ instr_at g (Some label) = slice_get g.instrs label
 -- what a cell without an instruction orders, which the trap does too: function 6 of group 1 on R0, mask 0,
 -- FF0 and HCZ, and the fields at their defaults (this project's own choice)
 abbrev pub free_order : Declaration → Order
-free_order decl = record { func = 0x60; mask = 0; ctl = record { input = Hcz; output = Ff0 }; write = writes decl.write (defaults_of decl.fields) }
+free_order decl = record {
+  func = 0x60;
+  mask = 0;
+  ctl = record { input = Hcz; output = Ff0 };
+  write = writes decl.write (defaults_of decl.fields);
+}
 
 -- what an instruction orders, or where there is none the free cell
 abbrev pub order_of : Declaration → Option Instr → Order

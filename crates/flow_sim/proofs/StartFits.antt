@@ -24,7 +24,8 @@ unfolding first_words
 first_words_none script = refl
 
 -- one word more
-pub first_words_more : (script : BusScript) (count : ℕ) → first_words script count ++ initial_at script count ∷ [] ≡ first_words script (count + 1)
+pub first_words_more : (script : BusScript) (count : ℕ)
+    → first_words script count ++ initial_at script count ∷ [] ≡ first_words script (count + 1)
 unfolding first_words
 first_words_more script count = sym (map-range_with_len_more (initial_at script) 0 count count (zero-add count))
 

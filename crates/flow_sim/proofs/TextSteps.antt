@@ -34,7 +34,8 @@ unfolding flow_start start_machine
 start_clock g script = refl
 
 -- what is left of the text before a clock: its line, and what is left after it
-text_left : (g : Graph) (script : BusScript) (clocks k : ℕ) (s next : FlowState) (line : List ℕ) → k < clocks → line ≡ clock_line g script s →
+text_left : (g : Graph) (script : BusScript) (clocks k : ℕ) (s next : FlowState) (line : List ℕ) → k < clocks
+    → line ≡ clock_line g script s →
     next ≡ flow_step g s (buses_for script s) → text_from g script (clocks - k) s ≡ line ++ text_from g script (clocks - (k + 1)) next
 text_left g script clocks k s next line before is_line is_next =
     let left : clocks - k ≡ suc (clocks - (k + 1)) = omega arith in
@@ -65,7 +66,8 @@ written_all start now whole left none told = λ t.
     front.2 ∙ ap (λ (done : List ℕ). start.bytes ++ done) (sym all)
 
 -- a piece more is written
-pub written_more : (start now new : SinkState) (whole piece left : List ℕ) → SinkGoesOn start now → Written start now whole (piece ++ left) → Adds now new piece → Written start new whole left
+pub written_more : (start now new : SinkState) (whole piece left : List ℕ) → SinkGoesOn start now
+    → Written start now whole (piece ++ left) → Adds now new piece → Written start new whole left
 written_more start now new whole piece left goes_on told adds = λ t.
     let front = told t in (
       front.0 ++ piece,
@@ -74,36 +76,46 @@ written_more start now new whole piece left goes_on told adds = λ t.
     )
 
 -- a front of the next piece is a front of the whole
-pub written_front : (start now new : SinkState) (whole piece left : List ℕ) → SinkGoesOn start now → Written start now whole (piece ++ left) → AddsPrefix now new piece → AddsPrefix start new whole
+pub written_front : (start now new : SinkState) (whole piece left : List ℕ) → SinkGoesOn start now
+    → Written start now whole (piece ++ left) → AddsPrefix now new piece → AddsPrefix start new whole
 written_front start now new whole piece left goes_on told adds = λ t.
     let front = told t in
     let some = adds (goes_on.tells ∙ t) in
     let part : List ℕ = take some.0 piece in
     let rest : List ℕ = drop some.0 piece ++ left in
-    let cut : piece ++ left ≡ part ++ rest = ap (λ (p : List ℕ). p ++ left) (sym (take-append-drop some.0 piece)) ∙ append_assoc part (drop some.0 piece) left in
-    let split : whole ≡ (front.0 ++ part) ++ rest = front.1 ∙ ap (λ (p : List ℕ). front.0 ++ p) cut ∙ sym (append_assoc front.0 part rest) in
-    let taken : take (length (front.0 ++ part)) whole ≡ front.0 ++ part = ap (take (length (front.0 ++ part))) split ∙ take-append_seam (front.0 ++ part) rest in (
+    let cut : piece ++ left ≡ part ++ rest = ap (λ (p : List ℕ). p ++ left) (sym (take-append-drop some.0 piece))
+    ∙ append_assoc part (drop some.0 piece) left in
+    let split : whole ≡ (front.0 ++ part) ++ rest = front.1 ∙ ap (λ (p : List ℕ). front.0 ++ p) cut
+    ∙ sym (append_assoc front.0 part rest) in
+    let taken : take (length (front.0 ++ part)) whole ≡ front.0 ++ part = ap (take (length (front.0 ++ part))) split
+    ∙ take-append_seam (front.0 ++ part) rest in (
       length (front.0 ++ part),
-      some.1 ∙ ap (λ (bytes : List ℕ). bytes ++ part) front.2 ∙ append_assoc start.bytes front.0 part ∙ ap (λ (p : List ℕ). start.bytes ++ p) (sym taken),
+      some.1 ∙ ap (λ (bytes : List ℕ). bytes ++ part) front.2 ∙ append_assoc start.bytes front.0 part
+          ∙ ap (λ (p : List ℕ). start.bytes ++ p) (sym taken),
     )
 
 -- ---- one clock of a run
 
 -- the line of a clock is written
-pub clock_written : (g : Graph) (script : BusScript) (clocks k : ℕ) (s next : FlowState) (line : List ℕ) (start now new : SinkState) (whole : List ℕ) →
+pub clock_written : (g : Graph) (script : BusScript) (clocks k : ℕ) (s next : FlowState) (line : List ℕ) (start now new : SinkState)
+    (whole : List ℕ) →
     k < clocks → line ≡ clock_line g script s → next ≡ flow_step g s (buses_for script s) → SinkGoesOn start now →
-    Written start now whole (text_from g script (clocks - k) s) → Adds now new line → Written start new whole (text_from g script (clocks - (k + 1)) next)
+    Written start now whole (text_from g script (clocks - k) s) → Adds now new line
+    → Written start new whole (text_from g script (clocks - (k + 1)) next)
 clock_written g script clocks k s next line start now new whole before is_line is_next goes_on told adds =
     let left = text_left g script clocks k s next line before is_line is_next in
-    written_more start now new whole line (text_from g script (clocks - (k + 1)) next) goes_on (subst (Written start now whole) left told) adds
+    written_more start now new whole line (text_from g script (clocks - (k + 1)) next) goes_on (subst (Written start now whole) left told)
+    adds
 
 -- a front of the line of a clock is written
-pub clock_front : (g : Graph) (script : BusScript) (clocks k : ℕ) (s next : FlowState) (line : List ℕ) (start now new : SinkState) (whole : List ℕ) →
+pub clock_front : (g : Graph) (script : BusScript) (clocks k : ℕ) (s next : FlowState) (line : List ℕ) (start now new : SinkState)
+    (whole : List ℕ) →
     k < clocks → line ≡ clock_line g script s → next ≡ flow_step g s (buses_for script s) → SinkGoesOn start now →
     Written start now whole (text_from g script (clocks - k) s) → AddsPrefix now new line → AddsPrefix start new whole
 clock_front g script clocks k s next line start now new whole before is_line is_next goes_on told adds =
     let left = text_left g script clocks k s next line before is_line is_next in
-    written_front start now new whole line (text_from g script (clocks - (k + 1)) next) goes_on (subst (Written start now whole) left told) adds
+    written_front start now new whole line (text_from g script (clocks - (k + 1)) next) goes_on
+    (subst (Written start now whole) left told) adds
 
 -- the number of the next clock
 pub step_clock : (g : Graph) (s : FlowState) (b : Buses) → (flow_step g s b).machine.clock ≡ s.machine.clock + 1

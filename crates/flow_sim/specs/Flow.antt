@@ -104,7 +104,8 @@ flow_step g s b = record {
 
 -- what is seen of a clock
 unfoldable pub flow_view : Graph → FlowState → Buses → ClockView
-flow_view g s b = view_of g.decl.slices (order_in g s) b (strobes (instr_of g s)) (shows (instr_of g s) s.machine.pr) (values_of g.decl (instr_of g s)) s.machine
+flow_view g s b = view_of g.decl.slices (order_in g s) b (strobes (instr_of g s)) (shows (instr_of g s) s.machine.pr)
+    (values_of g.decl (instr_of g s)) s.machine
 
 -- ---- many clocks
 

@@ -71,7 +71,8 @@ fo_of order s = flag_out order.ctl.output s.c s.z
 
 -- the array's answer, with FO on CI and LI
 unfoldable pub array_of : ℕ → Order → Buses → Machine → StepOutcome
-array_of slices order b s = array_step slices order.func (inputs_of order.mask (m_bus b.m s) b.i (fo_of order s) (fo_of order s)) s.registers
+array_of slices order b s =
+    array_step slices order.func (inputs_of order.mask (m_bus b.m s) b.i (fo_of order s) (fo_of order s)) s.registers
 
 -- the flag input
 unfoldable pub fi_of : ℕ → Order → Buses → Machine → Bool

@@ -76,16 +76,19 @@ on_flag : (label row outcome : ℕ) (target : Option ℕ) → label < 128 → ro
 on_flag label row zero target small range e =
     let first : Some (16 * row + 8 * (label / 8 % 2) + 2) ≡ target = cc in
     subst (λ (t : Option ℕ). IsAt case_place t (lands (cell_of label) (record { code = Jfl; operand = row }) 0)) first
-    (landed (16 * row + 8 * (label / 8 % 2) + 2) (16 * (label / 16 / 16) + row) (8 * (label % 16 / 8) + 2 + 0) (omega arith) (omega arith) (omega arith))
+    (landed (16 * row + 8 * (label / 8 % 2) + 2) (16 * (label / 16 / 16) + row) (8 * (label % 16 / 8) + 2 + 0) (omega arith) (omega arith)
+    (omega arith))
 on_flag label row (suc zero) target small range e =
     let second : Some (16 * row + 8 * (label / 8 % 2) + 3) ≡ target = cc in
     subst (λ (t : Option ℕ). IsAt case_place t (lands (cell_of label) (record { code = Jfl; operand = row }) 1)) second
-    (landed (16 * row + 8 * (label / 8 % 2) + 3) (16 * (label / 16 / 16) + row) (8 * (label % 16 / 8) + 2 + 1) (omega arith) (omega arith) (omega arith))
+    (landed (16 * row + 8 * (label / 8 % 2) + 3) (16 * (label / 16 / 16) + row) (8 * (label % 16 / 8) + 2 + 1) (omega arith) (omega arith)
+    (omega arith))
 on_flag label row (suc (suc outcome)) target small range e = absurd cc
 
 -- the jump of each flow statement: in its row, in its column, or by the flag
 has_jump : (label : ℕ) (operation : Operation) (register value : ℕ) (flow : Flow) → label < 128 → IsFlow flow
-    → HasJump case_place (instr_for label (record { operation = operation; register = register; value = value; flow = flow })) (cell_of label)
+    → HasJump case_place (instr_for label (record { operation = operation; register = register; value = value; flow = flow }))
+    (cell_of label)
 has_jump label operation register value (SameRow col) small range = (
   record { code = Jcr; operand = col },
   record {
@@ -93,7 +96,8 @@ has_jump label operation register value (SameRow col) small range = (
     admitted = tt;
     landings = λ outcome target e.
         let one = first_is outcome target (16 * (label / 16) + col) e in
-        subst (λ (t : Option ℕ). IsAt case_place t (cell (label / 16) col)) one.1 (landed (16 * (label / 16) + col) (label / 16) col (omega arith) (omega arith) (omega arith));
+        subst (λ (t : Option ℕ). IsAt case_place t (cell (label / 16) col)) one.1
+        (landed (16 * (label / 16) + col) (label / 16) col (omega arith) (omega arith) (omega arith));
   },
 )
 has_jump label operation register value (SameColumn row) small range = (
@@ -103,7 +107,8 @@ has_jump label operation register value (SameColumn row) small range = (
     admitted = tt;
     landings = λ outcome target e.
         let one = first_is outcome target (16 * row + label % 16) e in
-        subst (λ (t : Option ℕ). IsAt case_place t (cell row (label % 16))) one.1 (landed (16 * row + label % 16) row (label % 16) (omega arith) (omega arith) (omega arith));
+        subst (λ (t : Option ℕ). IsAt case_place t (cell row (label % 16))) one.1
+        (landed (16 * row + label % 16) row (label % 16) (omega arith) (omega arith) (omega arith));
   },
 )
 has_jump label operation register value (OnFlag row) small range = (
@@ -114,15 +119,18 @@ has_jump label operation register value (OnFlag row) small range = (
 -- ---- the placement
 
 -- each instruction of the case has a jump
-case_jump : (number label : ℕ) (instr : Instr) (from : Position) → slice_get (map (case_instr number) labels) label ≡ Some instr → slice_get case_place label ≡ Some from → HasJump case_place instr from
+case_jump : (number label : ℕ) (instr : Instr) (from : Position) → slice_get (map (case_instr number) labels) label ≡ Some instr
+    → slice_get case_place label ≡ Some from → HasJump case_place instr from
 case_jump number label instr from at_label at_cell =
     let placed = is_placed label from at_cell in
     let choice : Choice = choice_of number label in
     let range = choice_in_range number label in
-    let found : slice_get (map (case_instr number) labels) label ≡ Some (case_instr number label) = slice_get-map (case_instr number) labels label ∙ ap (option_map (case_instr number)) (label_at label placed.small) in
+    let found : slice_get (map (case_instr number) labels) label ≡ Some (case_instr number label) =
+    slice_get-map (case_instr number) labels label ∙ ap (option_map (case_instr number)) (label_at label placed.small) in
     let same : case_instr number label ≡ instr = same_instr (case_instr number label) instr (sym found ∙ at_label) in
     subst (λ (i : Instr). HasJump case_place i from) same
-    (subst (λ (p : Position). HasJump case_place (case_instr number label) p) (sym placed.is) (has_jump label choice.operation choice.register choice.value choice.flow placed.small range.flow))
+    (subst (λ (p : Position). HasJump case_place (case_instr number label) p) (sym placed.is)
+    (has_jump label choice.operation choice.register choice.value choice.flow placed.small range.flow))
   where
     same_instr : (a b : Instr) → (let some : Option Instr = Some a in some ≡ Some b) → a ≡ b
     same_instr a b e = cc
@@ -137,7 +145,8 @@ each_at P (y ∷ xs) (suc k) x all e = each_at P xs k x all.1 e
 pins_kept : KeepsPins (map case_pin pinned_labels) case_place
 pins_kept k pin e =
     let from = from_map case_pin pinned_labels k pin e in
-    subst (λ (p : Pin). slice_get case_place p.label ≡ Some p.cell) from.2 (placed_at from.0 (each_at IsLabel pinned_labels k from.0 all_pinned from.1))
+    subst (λ (p : Pin). slice_get case_place p.label ≡ Some p.cell) from.2
+    (placed_at from.0 (each_at IsLabel pinned_labels k from.0 all_pinned from.1))
 
 -- as many cells as instructions
 as_many : (number : ℕ) → length case_place ≡ length (map (case_instr number) labels)
@@ -156,7 +165,8 @@ pub case_is_legal : (number : ℕ) → IsLegal (case_graph number) case_place
 unfolding case_graph
 case_is_legal number = record {
   cell_for_each_label = as_many number;
-  in_matrix = λ label at e. let within = within_matrix label at (is_placed label at e) in record { row = omega (arith, within.0); col = within.1 };
+  in_matrix = λ label at e. let within = within_matrix label at (is_placed label at e) in
+      record { row = omega (arith, within.0); col = within.1 };
   cells_differ = λ i j at at_i at_j. apart i j (sym (is_placed i at at_i).is ∙ (is_placed j at at_j).is);
   pins_kept = pins_kept;
   start_at_origin = placed_at 0 (omega arith);

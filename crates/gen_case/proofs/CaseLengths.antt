@@ -42,7 +42,13 @@ few_pieces : (label : ℕ) (choice : Choice) → length (instruction_line label 
 few_pieces label choice =
     let flag : List Piece = flag_pieces (flag_of choice.operation) in
     let flow : List Piece = flow_pieces choice.value label choice.flow in
-    omega (arith, length-append flag flow, flag_count (flag_of choice.operation), target_count (targets_of label choice.flow), few_targets label choice.flow)
+    omega (
+      arith,
+      length-append flag flow,
+      flag_count (flag_of choice.operation),
+      target_count (targets_of label choice.flow),
+      few_targets label choice.flow,
+    )
 
 -- ---- the source
 
@@ -58,14 +64,25 @@ lines_few number =
       ),
     )
     (append_all (IsShortLine 20) (map pin_line pinned_labels) (map (case_line number) labels)
-    (map_all IsLabel (IsShortLine 20) pin_line pinned_labels (λ label small. record { few = omega arith; readable = pin_readable label small }) all_pinned)
+    (map_all IsLabel (IsShortLine 20) pin_line pinned_labels
+    (λ label small. record { few = omega arith; readable = pin_readable label small }) all_pinned)
     (map_all IsLabel (IsShortLine 20) (case_line number) labels
-    (λ label small. record { few = few_pieces label (choice_of number label); readable = instruction_readable label (choice_of number label) small (choice_in_range number label) }) all_labels))
+    (λ label small. record {
+      few = few_pieces label (choice_of number label);
+      readable = instruction_readable label (choice_of number label) small (choice_in_range number label);
+    }) all_labels))
 
 -- there are 244 lines
 line_count : (number : ℕ) → length (source_lines number) ≡ 244
 line_count number =
-    omega (arith, length-append (map pin_line pinned_labels) (map (case_line number) labels), length-map pinned_labels pin_line, length-map labels (case_line number), pinned_count, labels_count)
+    omega (
+      arith,
+      length-append (map pin_line pinned_labels) (map (case_line number) labels),
+      length-map pinned_labels pin_line,
+      length-map labels (case_line number),
+      pinned_count,
+      labels_count,
+    )
 
 -- the source is short enough for a source's file
 pub source_short : (number : ℕ) → length (source_text number) ≤ 1048576
@@ -75,7 +92,8 @@ source_short number = omega (arith, lines_short 20 (source_lines number) (lines_
 -- ---- the script
 
 -- each line has 5 pieces
-clocks_few : (words : ℕ → ℕ) (ks : List ℕ) → ((clock : ℕ) → words clock < 65536) → AllByRecursion (IsShortLine 5) (map (λ clock. clock_line (words clock)) ks)
+clocks_few : (words : ℕ → ℕ) (ks : List ℕ) → ((clock : ℕ) → words clock < 65536)
+    → AllByRecursion (IsShortLine 5) (map (λ clock. clock_line (words clock)) ks)
 clocks_few words [] fits = tt
 clocks_few words (k ∷ ks) fits = (record { few = omega arith; readable = clock_readable (words k) (fits k) }, clocks_few words ks fits)
 
@@ -87,4 +105,10 @@ clock_count n e = ap length (sym (clocks_are n e)) ∙ length-range_with_len 0 n
 pub script_short : (state : ℕ) → length (script_from state) ≤ 4194304
 script_short state =
     let all : List (List Piece) = map (λ clock. clock_line (word_at state clock)) clocks in
-    omega (arith, ap length (script_is state), lines_short 5 all (clocks_few (word_at state) clocks (word_fits state)), length-map clocks (λ clock. clock_line (word_at state clock)), clock_count 64 refl)
+    omega (
+      arith,
+      ap length (script_is state),
+      lines_short 5 all (clocks_few (word_at state) clocks (word_fits state)),
+      length-map clocks (λ clock. clock_line (word_at state clock)),
+      clock_count 64 refl,
+    )

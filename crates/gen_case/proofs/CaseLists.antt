@@ -8,7 +8,8 @@ use Rattle.gen_case.specs.Labels.{labels, is_pinned, pinned_labels}
 use Rattle.gen_case.proofs.TextLemmas.{labels_are}
 
 -- a fact for each of some numbers that follow each other
-range_all : (P : ℕ → Type 0) (bound first count : ℕ) → first + count ≤ bound → ((k : ℕ) → k < bound → P k) → AllByRecursion P (range_with_len first count)
+range_all : (P : ℕ → Type 0) (bound first count : ℕ) → first + count ≤ bound → ((k : ℕ) → k < bound → P k)
+    → AllByRecursion P (range_with_len first count)
 range_all P bound first zero fits each = tt
 range_all P bound first (suc count) fits each = (each first (omega arith), range_all P bound (first + 1) count (omega arith) each)
 
@@ -26,7 +27,8 @@ append_all P [] ys all more = more
 append_all P (x ∷ xs) ys all more = (all.0, append_all P xs ys all.1 more)
 
 -- a fact for what is made of each
-pub map_all : {X : Type 0} (P : ℕ → Type 0) (Q : X → Type 0) (f : ℕ → X) (xs : List ℕ) → ((k : ℕ) → P k → Q (f k)) → AllByRecursion P xs → AllByRecursion Q (map f xs)
+pub map_all : {X : Type 0} (P : ℕ → Type 0) (Q : X → Type 0) (f : ℕ → X) (xs : List ℕ) → ((k : ℕ) → P k → Q (f k)) → AllByRecursion P xs
+    → AllByRecursion Q (map f xs)
 map_all P Q f [] each all = tt
 map_all P Q f (x ∷ xs) each all = (each x all.0, map_all P Q f xs each all.1)
 
@@ -36,7 +38,8 @@ IsLabel label = label < 128
 
 -- each label is below 128
 labels_within : (n : ℕ) → n ≡ 128 → AllByRecursion IsLabel labels
-labels_within n e = subst (λ (ls : List ℕ). AllByRecursion IsLabel ls) (labels_are n e) (range_all IsLabel 128 0 n (omega arith) (λ k small. small))
+labels_within n e = subst (λ (ls : List ℕ). AllByRecursion IsLabel ls) (labels_are n e)
+    (range_all IsLabel 128 0 n (omega arith) (λ k small. small))
 
 -- all labels of a case are
 pub all_labels : AllByRecursion IsLabel labels
@@ -64,7 +67,8 @@ pinned_count = refl
 range_at : (first count place : ℕ) → place < count → slice_get (range_with_len first count) place ≡ Some (first + place)
 range_at first zero place within = absurd (omega arith)
 range_at first (suc count) zero within = let same : first ≡ first + 0 = omega arith in ap (λ (k : ℕ). Some k) same
-range_at first (suc count) (suc place) within = let same : first + 1 + place ≡ first + suc place = omega arith in range_at (first + 1) count place (omega arith) ∙ ap (λ (k : ℕ). Some k) same
+range_at first (suc count) (suc place) within = let same : first + 1 + place ≡ first + suc place = omega arith in
+    range_at (first + 1) count place (omega arith) ∙ ap (λ (k : ℕ). Some k) same
 
 -- past them there is none
 range_end : (first count place : ℕ) → count ≤ place → slice_get (range_with_len first count) place ≡ None

@@ -19,11 +19,14 @@ use Rattle.gen_case.specs.Labels.{label_name}
 use Rattle.gen_case.specs.SourceText.{mnemonic_of, register_name, operand_of, flag_of, statement_of}
 
 -- a text that passes the tests of a name is one
-pub tested_name : (text : List ℕ) → nat_lt 0 (length text) ≡ true → nat_le (length text) 32 ≡ true → list_all is_run_byte text ≡ true → is_ascii_digit (slice_index text 0) ≡ false → IsName text
-tested_name text some short plain begins = record { some = ltb-true 0 (length text) some; short = leb-true (length text) 32 short; plain = plain; begins = begins }
+pub tested_name : (text : List ℕ) → nat_lt 0 (length text) ≡ true → nat_le (length text) 32 ≡ true → list_all is_run_byte text ≡ true
+    → is_ascii_digit (slice_index text 0) ≡ false → IsName text
+tested_name text some short plain begins =
+    record { some = ltb-true 0 (length text) some; short = leb-true (length text) 32 short; plain = plain; begins = begins }
 
 -- a letter and a number of at most three digits is a name
-lettered : (letter number : ℕ) → is_run_byte letter ≡ true → is_ascii_digit letter ≡ false → number < 1000 → IsName (letter ∷ decimal number)
+lettered : (letter number : ℕ) → is_run_byte letter ≡ true → is_ascii_digit letter ≡ false → number < 1000
+    → IsName (letter ∷ decimal number)
 lettered letter number run begins small =
     let digits : length (decimal number) ≤ 3 = length-decimal-le 3 number (omega arith) (omega arith) (omega arith) in
     record {

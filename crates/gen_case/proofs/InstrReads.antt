@@ -57,7 +57,8 @@ ac_read = refl
 
 -- the code and the mask of each operation
 operation_read : (operation : Operation) (register : ℕ) → register < 10
-    → operation_code 8 2 (Mnemonic (mnemonic_of operation) (operand_of operation register)) ≡ Ok (code_of operation register, mask_of operation)
+    → operation_code 8 2 (Mnemonic (mnemonic_of operation) (operand_of operation register)) ≡ Ok
+    (code_of operation register, mask_of operation)
 unfolding operation_code spread_bits gathered_bits
 operation_read Ilr register small = rw (register_read register small) refl
 operation_read Alr register small = rw (register_read register small) refl
@@ -71,7 +72,8 @@ operation_read Lmi register small = rw (register_read register small) refl
 -- ---- settings and flow
 
 -- no setting is refused
-settings_accepted : (operation : Operation) (value : ℕ) → value < 16 → settings_refusal declared_case.fields [] (settings_with (flag_of operation) value) ≡ None
+settings_accepted : (operation : Operation) (value : ℕ) → value < 16
+    → settings_refusal declared_case.fields [] (settings_with (flag_of operation) value) ≡ None
 unfolding settings_refusal
 settings_accepted Ilr value small = rw (lt-leb 16 value small) refl
 settings_accepted Alr value small = rw (lt-leb 16 value small) refl
@@ -95,7 +97,8 @@ flags_read Sra value = refl
 flags_read Lmi value = refl
 
 -- the value of the field
-value_read : (operation : Operation) (value : ℕ) → values_given declared_case.fields (settings_with (flag_of operation) value) ≡ value ∷ []
+value_read : (operation : Operation) (value : ℕ)
+    → values_given declared_case.fields (settings_with (flag_of operation) value) ≡ value ∷ []
 unfolding value_given
 value_read Ilr value = refl
 value_read Alr value = refl
@@ -146,15 +149,20 @@ read_as number label choice ctl values = Ok (record {
 })
 
 -- an instruction of a choice is read as what the choice says
-pub instr_reads : (number label : ℕ) (choice : Choice) → IsChoice choice → instruction_read 8 declared_case number (written_for label choice) ≡ Ok (named_for number label choice)
+pub instr_reads : (number label : ℕ) (choice : Choice) → IsChoice choice
+    → instruction_read 8 declared_case number (written_for label choice) ≡ Ok (named_for number label choice)
 unfolding instruction_read
 instr_reads number label choice is =
     let instruction = written_for label choice in
     let code : ℕ × ℕ = (code_of choice.operation choice.register, mask_of choice.operation) in
     ap (λ (r : Result (ℕ × ℕ) AsmKind). r >>= λ code. unless_refused (settings_refusal declared_case.fields [] instruction.settings) code
-    >>= λ same. flow_kind instruction.flow instruction.targets >>= λ kind. Ok (named_instr declared_case number instruction code kind)) (operation_read choice.operation choice.register is.register)
+    >>= λ same. flow_kind instruction.flow instruction.targets >>= λ kind. Ok (named_instr declared_case number instruction code kind))
+    (operation_read choice.operation choice.register is.register)
     ∙ ap (λ (why : Option AsmKind). unless_refused why code
-    >>= λ same. flow_kind instruction.flow instruction.targets >>= λ kind. Ok (named_instr declared_case number instruction code kind)) (settings_accepted choice.operation choice.value is.value)
-    ∙ ap (λ (r : Result Kind AsmKind). r >>= λ kind. Ok (named_instr declared_case number instruction code kind)) (flow_read label choice.flow)
-    ∙ ap (λ (ctl : FlagCtl). read_as number label choice ctl (values_given declared_case.fields instruction.settings)) (flags_read choice.operation choice.value)
+    >>= λ same. flow_kind instruction.flow instruction.targets >>= λ kind. Ok (named_instr declared_case number instruction code kind))
+    (settings_accepted choice.operation choice.value is.value)
+    ∙ ap (λ (r : Result Kind AsmKind). r >>= λ kind. Ok (named_instr declared_case number instruction code kind))
+    (flow_read label choice.flow)
+    ∙ ap (λ (ctl : FlagCtl). read_as number label choice ctl (values_given declared_case.fields instruction.settings))
+    (flags_read choice.operation choice.value)
     ∙ ap (read_as number label choice (flags_of choice.operation)) (value_read choice.operation choice.value)

@@ -22,7 +22,8 @@ use Rattle.gen_case.proofs.CaseNames.{tested_name, label_is_name, mnemonic_is_na
 -- ---- targets
 
 -- each target is a label of a case
-pub targets_below : (label : ℕ) (flow : Flow) → label < 128 → IsFlow flow → AllByRecursion (λ target. target < 128) (targets_of label flow)
+pub targets_below : (label : ℕ) (flow : Flow) → label < 128 → IsFlow flow
+    → AllByRecursion (λ target. target < 128) (targets_of label flow)
 targets_below label (SameRow col) small range = (omega arith, tt)
 targets_below label (SameColumn row) small range = (omega arith, tt)
 targets_below label (OnFlag row) small range = (omega arith, (omega arith, tt))
@@ -48,19 +49,29 @@ flow_readable value label flow small is_label range =
     (tested_name (codes "u") refl refl refl refl, refl, (omega arith, refl, (statement_is_name flow, targets.apart, targets.readable)))
 
 -- with a flag function or none before them
-flag_readable : (flag : Option (List ℕ)) (rest : List Piece) → IsFlagName flag → AreReadable (Space ∷ rest) → IsTail (flag_pieces flag ++ Space ∷ rest)
+flag_readable : (flag : Option (List ℕ)) (rest : List Piece) → IsFlagName flag → AreReadable (Space ∷ rest)
+    → IsTail (flag_pieces flag ++ Space ∷ rest)
 flag_readable None rest h more = record { apart = refl; readable = more }
 flag_readable (Some flag) rest h more = record { apart = refl; readable = (h, refl, more) }
 
 -- an instruction can be read
 pub instruction_readable : (label : ℕ) (choice : Choice) → label < 128 → IsChoice choice → AreReadable (instruction_line label choice)
 instruction_readable label choice small is =
-    let tail = flag_readable (flag_of choice.operation) _ (flag_is_name choice.operation) (flow_readable choice.value label choice.flow is.value small is.flow) in
-    (label_is_name label small, refl, (mnemonic_is_name choice.operation, refl, (operand_is_name choice.operation choice.register is.register, tail.apart, tail.readable)))
+    let tail = flag_readable (flag_of choice.operation) _ (flag_is_name choice.operation)
+    (flow_readable choice.value label choice.flow is.value small is.flow) in (
+      label_is_name label small,
+      refl,
+      (
+        mnemonic_is_name choice.operation,
+        refl,
+        (operand_is_name choice.operation choice.register is.register, tail.apart, tail.readable),
+      ),
+    )
 
 -- a pin can be read
 pub pin_readable : (label : ℕ) → label < 128 → AreReadable (pin_line label)
-pin_readable label small = (tested_name (codes "pin") refl refl refl refl, refl, (label_is_name label small, refl, (omega arith, refl, (omega arith, refl, tt))))
+pin_readable label small =
+    (tested_name (codes "pin") refl refl refl refl, refl, (label_is_name label small, refl, (omega arith, refl, (omega arith, refl, tt))))
 
 -- ---- what the words say
 
@@ -94,7 +105,9 @@ written label mnemonic operand flag value flow = record {
 
 -- what the words of an instruction say
 words_say : (label value : ℕ) (mnemonic operand : List ℕ) (flag : Option (List ℕ)) (flow : Flow)
-    → source_line_form (words_in (Name (label_name label) ∷ Colon ∷ Space ∷ Name mnemonic ∷ Space ∷ Name operand ∷ (flag_pieces flag ++ flow_pieces value label flow)))
+    → source_line_form (words_in
+    (Name (label_name label)
+    ∷ Colon ∷ Space ∷ Name mnemonic ∷ Space ∷ Name operand ∷ (flag_pieces flag ++ flow_pieces value label flow)))
     ≡ says (Instruct (written label mnemonic operand flag value flow))
 unfolding settings_form
 words_say label value mnemonic operand None (SameRow col) = refl
@@ -106,8 +119,13 @@ words_say label value mnemonic operand (Some flag) (OnFlag row) = refl
 
 -- an instruction of a choice as its words say it
 abbrev pub written_for : ℕ → Choice → WrittenInstr
-written_for label choice = written label (mnemonic_of choice.operation) (operand_of choice.operation choice.register) (flag_of choice.operation) choice.value choice.flow
+written_for label choice =
+    written label (mnemonic_of choice.operation) (operand_of choice.operation choice.register) (flag_of choice.operation)
+    choice.value choice.flow
 
 -- what the words of a choice's instruction say
-pub instruction_form : (label : ℕ) (choice : Choice) → source_line_form (words_in (instruction_line label choice)) ≡ says (Instruct (written_for label choice))
-instruction_form label choice = words_say label choice.value (mnemonic_of choice.operation) (operand_of choice.operation choice.register) (flag_of choice.operation) choice.flow
+pub instruction_form : (label : ℕ) (choice : Choice)
+    → source_line_form (words_in (instruction_line label choice)) ≡ says (Instruct (written_for label choice))
+instruction_form label choice =
+    words_say label choice.value (mnemonic_of choice.operation) (operand_of choice.operation choice.register) (flag_of choice.operation)
+    choice.flow

@@ -59,20 +59,35 @@ case_facts pins instrs = record { declared = declared_case; rows = None; start =
 
 -- what the first lines declare, before the start
 abbrev declares : Option ℕ → Option ℕ → Facts
-declares slices kbus = record { declared = record { slices = slices; kbus = kbus; fields = []; prom = None; write = None }; rows = None; start = None; pins = []; instrs = [] }
+declares slices kbus =
+    record {
+      declared = record { slices = slices; kbus = kbus; fields = []; prom = None; write = None };
+      rows = None;
+      start = None;
+      pins = [];
+      instrs = [];
+    }
 
 -- the declarations are taken
-pub header_taken : (rest : List (List ℕ)) → after_lines (facts_of []) 1 (map pieces_text header_lines ++ rest) ≡ after_lines (case_facts [] []) 5 rest
+pub header_taken : (rest : List (List ℕ))
+    → after_lines (facts_of []) 1 (map pieces_text header_lines ++ rest) ≡ after_lines (case_facts [] []) 5 rest
 unfolding named_form directive_form judged refusal
 header_taken rest =
     let after_slices : List (List ℕ) = pieces_text kbus_line ∷ pieces_text field_line ∷ pieces_text start_line ∷ rest in
-    line_adds (facts_of []) 1 slices_line after_slices (source_lines.Declares (directives.Slices 8)) (earlier.Declares (directives.Slices 8))
+    line_adds (facts_of []) 1 slices_line after_slices (source_lines.Declares (directives.Slices 8))
+    (earlier.Declares (directives.Slices 8))
     (tested_name (codes "slices") refl refl refl refl, refl, (omega arith, refl, tt)) refl refl
-    ∙ line_adds (declares (Some 8) None) 2 kbus_line (pieces_text field_line ∷ pieces_text start_line ∷ rest) (source_lines.Declares (directives.KBus 2)) (earlier.Declares (directives.KBus 2))
+    ∙ line_adds (declares (Some 8) None) 2 kbus_line (pieces_text field_line ∷ pieces_text start_line ∷ rest)
+    (source_lines.Declares (directives.KBus 2)) (earlier.Declares (directives.KBus 2))
     (tested_name (codes "kbus") refl refl refl refl, refl, (omega arith, refl, tt)) refl refl
-    ∙ line_adds (declares (Some 8) (Some 2)) 3 field_line (pieces_text start_line ∷ rest) (source_lines.Declares (directives.Field (codes "u") 4 0)) (earlier.Declares (directives.Field (codes "u") 4 0))
-    (tested_name (codes "field") refl refl refl refl, refl, (tested_name (codes "u") refl refl refl refl, refl, (omega arith, refl, (omega arith, refl, tt)))) refl refl
-    ∙ line_adds (record { declared = declared_case; rows = None; start = None; pins = []; instrs = [] }) 4 start_line rest (source_lines.Start (label_name 0)) (earlier.Starts case_start)
+    ∙ line_adds (declares (Some 8) (Some 2)) 3 field_line (pieces_text start_line ∷ rest)
+    (source_lines.Declares (directives.Field (codes "u") 4 0)) (earlier.Declares (directives.Field (codes "u") 4 0)) (
+      tested_name (codes "field") refl refl refl refl,
+      refl,
+      (tested_name (codes "u") refl refl refl refl, refl, (omega arith, refl, (omega arith, refl, tt))),
+    ) refl refl
+    ∙ line_adds (record { declared = declared_case; rows = None; start = None; pins = []; instrs = [] }) 4 start_line rest
+    (source_lines.Start (label_name 0)) (earlier.Starts case_start)
     (tested_name (codes "start") refl refl refl refl, refl, (label_is_name 0 (omega arith), refl, tt)) refl refl
 
 -- ---- the pins
@@ -91,18 +106,23 @@ abbrev NoPinFrom : List PinLine → ℕ → Type 0
 NoPinFrom pins first = (label : ℕ) → first ≤ label → label < 128 → earlier.is_pinned pins (label_name label) ≡ false
 
 -- a pin's line
-pin_taken : (pins : List PinLine) (number label : ℕ) (rest : List (List ℕ)) → label < 128 → earlier.is_pinned pins (label_name label) ≡ false
-    → after_lines (case_facts pins []) number (pieces_text (pin_line label) ∷ rest) ≡ after_lines (case_facts (pins ++ pin_in number label ∷ []) []) (number + 1) rest
+pin_taken : (pins : List PinLine) (number label : ℕ) (rest : List (List ℕ)) → label < 128
+    → earlier.is_pinned pins (label_name label) ≡ false
+    → after_lines (case_facts pins []) number (pieces_text (pin_line label) ∷ rest) ≡ after_lines
+    (case_facts (pins ++ pin_in number label ∷ []) []) (number + 1) rest
 unfolding judged
 pin_taken pins number label rest small new =
-    line_adds (case_facts pins []) number (pin_line label) rest (Pin (label_name label) (label / 16) (label % 16)) (earlier.Pins (pin_in number label)) (pin_readable label small) (pin_form label)
+    line_adds (case_facts pins []) number (pin_line label) rest (Pin (label_name label) (label / 16) (label % 16))
+    (earlier.Pins (pin_in number label)) (pin_readable label small) (pin_form label)
     (rw (le-ltb 31 (label / 16) (omega arith), le-ltb 15 (label % 16) (omega arith), new) refl)
 
 -- a pin more names no further label
-pin_new : (pins : List PinLine) (number first : ℕ) → first < 128 → NoPinFrom pins first → NoPinFrom (pins ++ pin_in number first ∷ []) (first + 1)
+pin_new : (pins : List PinLine) (number first : ℕ) → first < 128 → NoPinFrom pins first
+    → NoPinFrom (pins ++ pin_in number first ∷ []) (first + 1)
 pin_new pins number first small none = λ label from is_label.
     list_any-append (λ (pin : PinLine). bytes_eq (label_name label) pin.label) pins (pin_in number first ∷ [])
-    ∙ or_from (earlier.is_pinned pins (label_name label)) (bytes_eq (label_name label) (label_name first) || false) (none label (omega arith) is_label)
+    ∙ or_from (earlier.is_pinned pins (label_name label)) (bytes_eq (label_name label) (label_name first) || false)
+    (none label (omega arith) is_label)
     (or_from (bytes_eq (label_name label) (label_name first)) false (other_name label first is_label small (omega arith)) refl)
 
 -- an element between two lists
@@ -112,18 +132,23 @@ grouped xs y ys = append_assoc xs (y ∷ []) ys
 -- the pins of the pinned labels among some that follow each other
 pub pins_taken : (pins : List PinLine) (number first count : ℕ) (rest : List (List ℕ)) → first + count ≤ 128 → NoPinFrom pins first
     → after_lines (case_facts pins []) number (map pieces_text (map pin_line (filter is_pinned (range_with_len first count))) ++ rest)
-    ≡ after_lines (case_facts (pins ++ pins_in number (filter is_pinned (range_with_len first count))) []) (number + length (filter is_pinned (range_with_len first count))) rest
+    ≡ after_lines (case_facts (pins ++ pins_in number (filter is_pinned (range_with_len first count))) [])
+    (number + length (filter is_pinned (range_with_len first count))) rest
 pins_taken pins number first zero rest fits none =
-    ap (λ (ps : List PinLine). after_lines (case_facts ps []) number rest) (sym (append-nil pins)) ∙ ap (λ (k : ℕ). after_lines (case_facts (pins ++ []) []) k rest) (omega arith)
+    ap (λ (ps : List PinLine). after_lines (case_facts ps []) number rest) (sym (append-nil pins))
+    ∙ ap (λ (k : ℕ). after_lines (case_facts (pins ++ []) []) k rest) (omega arith)
 pins_taken pins number first (suc count) rest fits none = elim (cases_Bool (is_pinned first)) [
   | inl pinned ↦
       let others : List ℕ = filter is_pinned (range_with_len (first + 1) count) in
       rw pinned (
       pin_taken pins number first (map pieces_text (map pin_line others) ++ rest) (omega arith) (none first (omega arith) (omega arith))
-      ∙ pins_taken (pins ++ pin_in number first ∷ []) (number + 1) (first + 1) count rest (omega arith) (pin_new pins number first (omega arith) none)
-      ∙ ap (λ (ps : List PinLine). after_lines (case_facts ps []) (number + 1 + length others) rest) (grouped pins (pin_in number first) (pins_in (number + 1) others))
+      ∙ pins_taken (pins ++ pin_in number first ∷ []) (number + 1) (first + 1) count rest (omega arith)
+      (pin_new pins number first (omega arith) none)
+      ∙ ap (λ (ps : List PinLine). after_lines (case_facts ps []) (number + 1 + length others) rest)
+      (grouped pins (pin_in number first) (pins_in (number + 1) others))
       ∙ ap (λ (k : ℕ). after_lines (case_facts (pins ++ pin_in number first ∷ pins_in (number + 1) others) []) k rest) (omega arith))
-  | inr free ↦ rw free (pins_taken pins number (first + 1) count rest (omega arith) (λ label from is_label. none label (omega arith) is_label))
+  | inr free ↦ rw free
+      (pins_taken pins number (first + 1) count rest (omega arith) (λ label from is_label. none label (omega arith) is_label))
 ]
 
 -- ---- the instructions
@@ -138,35 +163,48 @@ abbrev NoLabelFrom : List NamedInstr → ℕ → Type 0
 NoLabelFrom instrs first = (label : ℕ) → first ≤ label → label < 128 → has_label instrs (label_name label) ≡ false
 
 -- an instruction's line
-instr_taken : (pins : List PinLine) (instrs : List NamedInstr) (number label : ℕ) (choice : Choice) (rest : List (List ℕ)) → label < 128 → IsChoice choice
+instr_taken : (pins : List PinLine) (instrs : List NamedInstr) (number label : ℕ) (choice : Choice) (rest : List (List ℕ)) → label < 128
+    → IsChoice choice
     → has_label instrs (label_name label) ≡ false → length instrs < 128
     → after_lines (case_facts pins instrs) number (pieces_text (instruction_line label choice) ∷ rest)
     ≡ after_lines (case_facts pins (instrs ++ named_for number label choice ∷ [])) (number + 1) rest
 unfolding judged
 instr_taken pins instrs number label choice rest small is new few =
-    line_adds (case_facts pins instrs) number (instruction_line label choice) rest (Instruct (written_for label choice)) (earlier.Instructs (named_for number label choice))
+    line_adds (case_facts pins instrs) number (instruction_line label choice) rest (Instruct (written_for label choice))
+    (earlier.Instructs (named_for number label choice))
     (instruction_readable label choice small is) (instruction_form label choice)
-    (rw (new, lt-leb 128 (length instrs) few) (ap (λ (r : Result NamedInstr AsmKind). r >>= instructs) (instr_reads number label choice is)))
+    (rw (new, lt-leb 128 (length instrs) few)
+    (ap (λ (r : Result NamedInstr AsmKind). r >>= instructs) (instr_reads number label choice is)))
 
 -- an instruction more has no further label
-instr_new : (instrs : List NamedInstr) (number first : ℕ) (choice : Choice) → first < 128 → NoLabelFrom instrs first → NoLabelFrom (instrs ++ named_for number first choice ∷ []) (first + 1)
+instr_new : (instrs : List NamedInstr) (number first : ℕ) (choice : Choice) → first < 128 → NoLabelFrom instrs first
+    → NoLabelFrom (instrs ++ named_for number first choice ∷ []) (first + 1)
 instr_new instrs number first choice small none = λ label from is_label.
     list_any-append (λ (instr : NamedInstr). bytes_eq (label_name label) instr.label) instrs (named_for number first choice ∷ [])
-    ∙ or_from (has_label instrs (label_name label)) (bytes_eq (label_name label) (label_name first) || false) (none label (omega arith) is_label)
+    ∙ or_from (has_label instrs (label_name label)) (bytes_eq (label_name label) (label_name first) || false)
+    (none label (omega arith) is_label)
     (or_from (bytes_eq (label_name label) (label_name first)) false (other_name label first is_label small (omega arith)) refl)
 
 -- the instructions of some labels that follow each other
-pub instrs_taken : (pins : List PinLine) (chosen : ℕ → Choice) (offset : ℕ) (instrs : List NamedInstr) (first count : ℕ) → ((label : ℕ) → IsChoice (chosen label)) → first + count ≤ 128
+pub instrs_taken : (pins : List PinLine) (chosen : ℕ → Choice) (offset : ℕ) (instrs : List NamedInstr) (first count : ℕ)
+    → ((label : ℕ) → IsChoice (chosen label)) → first + count ≤ 128
     → length instrs ≡ first → NoLabelFrom instrs first
-    → after_lines (case_facts pins instrs) (offset + first) (map pieces_text (map (λ label. instruction_line label (chosen label)) (range_with_len first count)))
+    → after_lines (case_facts pins instrs) (offset + first)
+    (map pieces_text (map (λ label. instruction_line label (chosen label)) (range_with_len first count)))
     ≡ Ok (case_facts pins (instrs ++ instrs_in chosen offset (range_with_len first count)))
 unfolding after_lines
-instrs_taken pins chosen offset instrs first zero is fits len none = ap (λ (found : List NamedInstr). Ok (case_facts pins found)) (sym (append-nil instrs))
+instrs_taken pins chosen offset instrs first zero is fits len none =
+    ap (λ (found : List NamedInstr). Ok (case_facts pins found)) (sym (append-nil instrs))
 instrs_taken pins chosen offset instrs first (suc count) is fits len none =
     let instr : NamedInstr = named_for (offset + first) first (chosen first) in
     let next : offset + first + 1 ≡ offset + (first + 1) = omega arith in
-    let rest : List (List ℕ) = map pieces_text (map (λ label. instruction_line label (chosen label)) (range_with_len (first + 1) count)) in
-    instr_taken pins instrs (offset + first) first (chosen first) rest (omega arith) (is first) (none first (omega arith) (omega arith)) (omega arith)
+    let rest : List (List ℕ) =
+    map pieces_text (map (λ label. instruction_line label (chosen label)) (range_with_len (first + 1) count)) in
+    instr_taken pins instrs (offset + first) first (chosen first) rest (omega arith) (is first) (none first (omega arith) (omega arith))
+    (omega arith)
     ∙ ap (λ (k : ℕ). after_lines (case_facts pins (instrs ++ instr ∷ [])) k rest) next
-    ∙ instrs_taken pins chosen offset (instrs ++ instr ∷ []) (first + 1) count is (omega arith) (omega (arith, length-append instrs (instr ∷ []), len)) (instr_new instrs (offset + first) first (chosen first) (omega arith) none)
-    ∙ ap (λ (found : List NamedInstr). Ok (case_facts pins found)) (grouped instrs instr (instrs_in chosen offset (range_with_len (first + 1) count)))
+    ∙ instrs_taken pins chosen offset (instrs ++ instr ∷ []) (first + 1) count is (omega arith)
+    (omega (arith, length-append instrs (instr ∷ []), len))
+    (instr_new instrs (offset + first) first (chosen first) (omega arith) none)
+    ∙ ap (λ (found : List NamedInstr). Ok (case_facts pins found))
+    (grouped instrs instr (instrs_in chosen offset (range_with_len (first + 1) count)))

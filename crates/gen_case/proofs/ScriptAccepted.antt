@@ -30,10 +30,12 @@ word_fits state clock = drawn_below (state_after state (suc clock)) 65536 (lit< 
 
 -- a clock's line can be read
 pub clock_readable : (word : ℕ) → word < 65536 → AreReadable (clock_line word)
-clock_readable word fits = (tested_name (codes "clk") refl refl refl refl, refl, (tested_name (codes "i") refl refl refl refl, refl, (omega arith, refl, tt)))
+clock_readable word fits =
+    (tested_name (codes "clk") refl refl refl refl, refl, (tested_name (codes "i") refl refl refl refl, refl, (omega arith, refl, tt)))
 
 -- and gives the word
-clock_said : (memory : List (ℕ × ℕ)) (word : ℕ) → word < 65536 → words_said 8 memory (words_in (clock_line word)) ≡ Ok (Clock (buses_with word))
+clock_said : (memory : List (ℕ × ℕ)) (word : ℕ) → word < 65536
+    → words_said 8 memory (words_in (clock_line word)) ≡ Ok (Clock (buses_with word))
 unfolding keyword_line settings_refusal
 clock_said memory word fits = rw (lt-leb 65536 word fits) refl
 
@@ -45,31 +47,43 @@ unfolding after_lines line_said
 clock_adds before number word rest few fits =
     let script : BusScript = record { memory = []; clocks = before } in
     let said : line_said 8 number [] (pieces_text (clock_line word)) ≡ Ok (Clock (buses_with word)) =
-    rw (le-ltb 65536 number few) (ap (λ (r : Result (List Word) ScriptKind). r >>= words_said 8 []) (script_words (clock_line word) (clock_readable word fits)) ∙ clock_said [] word fits) in
+    rw (le-ltb 65536 number few)
+    (ap (λ (r : Result (List Word) ScriptKind). r >>= words_said 8 []) (script_words (clock_line word) (clock_readable word fits))
+    ∙ clock_said [] word fits) in
     ap (λ (r : Result Said ScriptKind). in_line number (with_said script r) >>= λ more. after_lines 8 more (number + 1) rest) said
 
 -- ---- all lines
 
 -- a line for each of some clocks
-clocks_taken : (words : ℕ → ℕ) (before : List Buses) (number first count : ℕ) → ((clock : ℕ) → words clock < 65536) → number + count ≤ 65537
-    → after_lines 8 (record { memory = []; clocks = before }) number (map pieces_text (map (λ clock. clock_line (words clock)) (range_with_len first count)))
+clocks_taken : (words : ℕ → ℕ) (before : List Buses) (number first count : ℕ) → ((clock : ℕ) → words clock < 65536)
+    → number + count ≤ 65537
+    → after_lines 8 (record { memory = []; clocks = before }) number
+    (map pieces_text (map (λ clock. clock_line (words clock)) (range_with_len first count)))
     ≡ Ok (record { memory = []; clocks = before ++ map (λ clock. buses_with (words clock)) (range_with_len first count) })
 unfolding after_lines
-clocks_taken words before number first zero fits few = ap (λ (cs : List Buses). Ok (record { memory = []; clocks = cs })) (sym (append-nil before))
+clocks_taken words before number first zero fits few =
+    ap (λ (cs : List Buses). Ok (record { memory = []; clocks = cs })) (sym (append-nil before))
 clocks_taken words before number first (suc count) fits few =
-    clock_adds before number (words first) (map pieces_text (map (λ clock. clock_line (words clock)) (range_with_len (first + 1) count))) (omega arith) (fits first)
+    clock_adds before number (words first) (map pieces_text (map (λ clock. clock_line (words clock)) (range_with_len (first + 1) count)))
+    (omega arith) (fits first)
     ∙ clocks_taken words (before ++ buses_with (words first) ∷ []) (number + 1) (first + 1) count fits (omega arith)
-    ∙ ap (λ (cs : List Buses). Ok (record { memory = []; clocks = cs })) (append_assoc before (buses_with (words first) ∷ []) (map (λ clock. buses_with (words clock)) (range_with_len (first + 1) count)))
+    ∙ ap (λ (cs : List Buses). Ok (record { memory = []; clocks = cs }))
+    (append_assoc before (buses_with (words first) ∷ []) (map (λ clock. buses_with (words clock)) (range_with_len (first + 1) count)))
 
 -- each of some clocks' lines can be read
-clocks_readable : (words : ℕ → ℕ) (ks : List ℕ) → ((clock : ℕ) → words clock < 65536) → AreReadableLines (map (λ clock. clock_line (words clock)) ks)
+clocks_readable : (words : ℕ → ℕ) (ks : List ℕ) → ((clock : ℕ) → words clock < 65536)
+    → AreReadableLines (map (λ clock. clock_line (words clock)) ks)
 clocks_readable words [] fits = tt
 clocks_readable words (k ∷ ks) fits = (clock_readable (words k) (fits k), clocks_readable words ks fits)
 
 -- all clocks
-all_taken : (n state : ℕ) → n ≡ 64 → after_lines 8 (script_by []) 1 (map pieces_text (map (λ clock. clock_line (word_at state clock)) clocks)) ≡ Ok (record { memory = []; clocks = map (λ clock. buses_with (word_at state clock)) clocks })
+all_taken : (n state : ℕ) → n ≡ 64
+    → after_lines 8 (script_by []) 1 (map pieces_text (map (λ clock. clock_line (word_at state clock)) clocks)) ≡ Ok
+    (record { memory = []; clocks = map (λ clock. buses_with (word_at state clock)) clocks })
 all_taken n state all =
-    let P : List ℕ → Type 0 = λ ks. after_lines 8 (script_by []) 1 (map pieces_text (map (λ clock. clock_line (word_at state clock)) ks)) ≡ Ok (record { memory = []; clocks = map (λ clock. buses_with (word_at state clock)) ks }) in
+    let P : List ℕ → Type 0 =
+    λ ks. after_lines 8 (script_by []) 1 (map pieces_text (map (λ clock. clock_line (word_at state clock)) ks)) ≡ Ok
+    (record { memory = []; clocks = map (λ clock. buses_with (word_at state clock)) ks }) in
     subst P (clocks_are n all) (clocks_taken (word_at state) [] 1 0 n (word_fits state) (omega arith))
 
 -- the script of a case means what is drawn for it
@@ -77,5 +91,6 @@ pub script_accepted : (state : ℕ) → script_of 8 (script_from state) ≡ Ok (
 unfolding script_from said_from
 script_accepted state =
     script_is 8 (script_from state)
-    ∙ ap (after_lines 8 (script_by []) 1) (text_lines (map (λ clock. clock_line (word_at state clock)) clocks) (clocks_readable (word_at state) clocks (word_fits state)))
+    ∙ ap (after_lines 8 (script_by []) 1)
+    (text_lines (map (λ clock. clock_line (word_at state clock)) clocks) (clocks_readable (word_at state) clocks (word_fits state)))
     ∙ all_taken 64 state refl

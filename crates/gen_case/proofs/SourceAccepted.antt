@@ -67,7 +67,8 @@ lines_readable number =
     append_all AreReadable header_lines (map pin_line pinned_labels ++ map (case_line number) labels) header_readable
     (append_all AreReadable (map pin_line pinned_labels) (map (case_line number) labels)
     (map_all IsLabel AreReadable pin_line pinned_labels (λ label small. pin_readable label small) all_pinned)
-    (map_all IsLabel AreReadable (case_line number) labels (λ label small. instruction_readable label (choice_of number label) small (choice_in_range number label)) all_labels))
+    (map_all IsLabel AreReadable (case_line number) labels
+    (λ label small. instruction_readable label (choice_of number label) small (choice_in_range number label)) all_labels))
 
 -- the lines of the source
 source_lines_are : (number : ℕ) → lines (source_text number) ≡ map pieces_text (source_lines number)
@@ -76,21 +77,30 @@ source_lines_are number = text_lines (source_lines number) (lines_readable numbe
 
 -- the pins' lines
 pin_lines_taken : (n : ℕ) (rest : List (List ℕ)) → n ≡ 128
-    → after_lines (case_facts [] []) 5 (map pieces_text (map pin_line pinned_labels) ++ rest) ≡ after_lines (case_facts (pins_in 5 pinned_labels) []) (5 + length pinned_labels) rest
+    → after_lines (case_facts [] []) 5 (map pieces_text (map pin_line pinned_labels) ++ rest) ≡ after_lines
+    (case_facts (pins_in 5 pinned_labels) []) (5 + length pinned_labels) rest
 pin_lines_taken n rest all =
-    let P : List ℕ → Type 0 = λ ls. after_lines (case_facts [] []) 5 (map pieces_text (map pin_line ls) ++ rest) ≡ after_lines (case_facts (pins_in 5 ls) []) (5 + length ls) rest in
+    let P : List ℕ → Type 0 =
+    λ ls. after_lines (case_facts [] []) 5 (map pieces_text (map pin_line ls) ++ rest) ≡ after_lines (case_facts (pins_in 5 ls) [])
+    (5 + length ls) rest in
     subst P (pinned_are n all) (pins_taken [] 5 0 n rest (omega arith) (λ label from small. refl))
 
 -- the instructions' lines
 instr_lines_taken : (n number : ℕ) → n ≡ 128
-    → after_lines (case_facts (pins_in 5 pinned_labels) []) 117 (map pieces_text (map (case_line number) labels)) ≡ Ok (case_facts (pins_in 5 pinned_labels) (instrs_in (choice_of number) 117 labels))
+    → after_lines (case_facts (pins_in 5 pinned_labels) []) 117 (map pieces_text (map (case_line number) labels)) ≡ Ok
+    (case_facts (pins_in 5 pinned_labels) (instrs_in (choice_of number) 117 labels))
 instr_lines_taken n number all =
     let pins = pins_in 5 pinned_labels in
-    let P : List ℕ → Type 0 = λ ls. after_lines (case_facts pins []) 117 (map pieces_text (map (case_line number) ls)) ≡ Ok (case_facts pins (instrs_in (choice_of number) 117 ls)) in
-    subst P (labels_are n all) (instrs_taken pins (choice_of number) 117 [] 0 n (choice_in_range number) (omega arith) refl (λ label from small. refl))
+    let P : List ℕ → Type 0 =
+    λ ls. after_lines (case_facts pins []) 117 (map pieces_text (map (case_line number) ls)) ≡ Ok
+    (case_facts pins (instrs_in (choice_of number) 117 ls)) in
+    subst P (labels_are n all)
+    (instrs_taken pins (choice_of number) 117 [] 0 n (choice_in_range number) (omega arith) refl (λ label from small. refl))
 
 -- all lines
-lines_taken : (n number : ℕ) → n ≡ 128 → after_lines (facts_of []) 1 (lines (source_text number)) ≡ Ok (case_facts (pins_in 5 pinned_labels) (instrs_in (choice_of number) 117 labels))
+lines_taken : (n number : ℕ) → n ≡ 128
+    → after_lines (facts_of []) 1 (lines (source_text number)) ≡ Ok
+    (case_facts (pins_in 5 pinned_labels) (instrs_in (choice_of number) 117 labels))
 lines_taken n number all =
     let instr_lines : List (List ℕ) = map pieces_text (map (case_line number) labels) in
     let line : 5 + length pinned_labels ≡ 117 = omega (arith, pinned_count) in
@@ -105,11 +115,15 @@ lines_taken n number all =
 
 -- the instructions have all labels
 all_have : (n number : ℕ) → n ≡ 128 → HaveLabels (instrs_in (choice_of number) 117 labels)
-all_have n number all = subst (λ (ls : List ℕ). HaveLabels (instrs_in (choice_of number) 117 ls)) (labels_are n all) (have_labels (choice_of number) 117 n all)
+all_have n number all =
+    subst (λ (ls : List ℕ). HaveLabels (instrs_in (choice_of number) 117 ls)) (labels_are n all)
+    (have_labels (choice_of number) 117 n all)
 
 -- the source of a case means its program
 pub source_accepted : (number : ℕ) → source_of (source_text number) ≡ Ok (case_graph number)
 unfolding case_graph
 source_accepted number =
-    finished_in (case_facts (pins_in 5 pinned_labels) (instrs_in (choice_of number) 117 labels)) (source_text number) (lines_taken 128 number refl)
-    ∙ program_reads (choice_of number) 5 pinned_labels labels (choice_in_range number) (all_have 128 number refl) (omega (arith, labels_count)) all_pinned all_labels
+    finished_in (case_facts (pins_in 5 pinned_labels) (instrs_in (choice_of number) 117 labels)) (source_text number)
+    (lines_taken 128 number refl)
+    ∙ program_reads (choice_of number) 5 pinned_labels labels (choice_in_range number) (all_have 128 number refl)
+    (omega (arith, labels_count)) all_pinned all_labels

@@ -14,9 +14,12 @@ sum_none g script s = refl
 
 -- the first clock's D, and the others'
 sum_step : (g : Graph) (script : BusScript) (n : ℕ) (s : FlowState)
-    → sum_from g script (suc n) s ≡ (flow_view g s (buses_for script s)).regs.ac + sum_from g script n (flow_step g s (buses_for script s))
+    → sum_from g script (suc n) s ≡ (flow_view g s (buses_for script s)).regs.ac + sum_from g script n
+    (flow_step g s (buses_for script s))
 unfolding sum_from flow_from
-sum_step g script n s = sum_by-cons (λ shown. shown.1.regs.ac) (s.place, flow_view g s (buses_for script s)) (flow_from g script n (flow_step g s (buses_for script s)))
+sum_step g script n s =
+    sum_by-cons (λ shown. shown.1.regs.ac) (s.place, flow_view g s (buses_for script s))
+    (flow_from g script n (flow_step g s (buses_for script s)))
 
 -- the whole sum is that from the start on
 pub sum_is : (g : Graph) (script : BusScript) (n : ℕ) → flow_sum g script n ≡ sum_from g script n (flow_start g script)
@@ -24,8 +27,10 @@ unfolding flow_sum flow_trace sum_from
 sum_is g script n = refl
 
 -- one clock more is counted
-pub one_counted : (g : Graph) (script : BusScript) (clocks k sum total : ℕ) (s : FlowState) (b : Buses) → k < clocks → s.machine.clock ≡ k → b ≡ buses_at script k
-    → sum + sum_from g script (clocks - k) s ≡ total → sum + (flow_view g s b).regs.ac + sum_from g script (clocks - (k + 1)) (flow_step g s b) ≡ total
+pub one_counted : (g : Graph) (script : BusScript) (clocks k sum total : ℕ) (s : FlowState) (b : Buses) → k < clocks → s.machine.clock ≡ k
+    → b ≡ buses_at script k
+    → sum + sum_from g script (clocks - k) s ≡ total
+    → sum + (flow_view g s b).regs.ac + sum_from g script (clocks - (k + 1)) (flow_step g s b) ≡ total
 one_counted g script clocks k sum total s b before clock is_b so_far =
     let left : clocks - k ≡ suc (clocks - (k + 1)) = omega arith in
     let same : b ≡ buses_for script s = is_b ∙ ap (buses_at script) (sym clock) in

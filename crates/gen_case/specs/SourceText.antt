@@ -89,12 +89,14 @@ target_pieces (target ∷ targets) = Space ∷ Name (label_name target) ∷ targ
 -- what follows the operation and its flag function: the field, and the flow statement with its targets
 abbrev pub flow_pieces : ℕ → ℕ → Flow → List Piece
 flow_pieces value label flow =
-    Space ∷ Name (codes "u") ∷ Equals ∷ Number value ∷ Space ∷ Bar ∷ Space ∷ Name (statement_of flow) ∷ target_pieces (targets_of label flow)
+    Space ∷ Name (codes "u") ∷ Equals ∷ Number value ∷ Space ∷ Bar ∷ Space ∷ Name (statement_of flow) ∷ target_pieces
+    (targets_of label flow)
 
 -- the instruction of a label
 abbrev pub instruction_line : ℕ → Choice → List Piece
 instruction_line label choice =
-    Name (label_name label) ∷ Colon ∷ Space ∷ Name (mnemonic_of choice.operation) ∷ Space ∷ Name (operand_of choice.operation choice.register)
+    Name (label_name label) ∷ Colon ∷ Space ∷ Name (mnemonic_of choice.operation) ∷ Space ∷ Name
+    (operand_of choice.operation choice.register)
     ∷ (flag_pieces (flag_of choice.operation) ++ flow_pieces choice.value label choice.flow)
 
 -- the instruction of a label of a case

@@ -54,8 +54,10 @@ begins_more : (file : Option (List ℕ)) (bytes buf : List ℕ) (n : ℕ) →
     n ≤ length buf → Begins file bytes → Reads file (length bytes) (Some n) buf → Begins file (bytes ++ take n buf)
 begins_more None bytes buf n within begins reads = absurd reads
 begins_more (Some file) bytes buf n within begins reads =
-    let size : length (bytes ++ take n buf) ≡ length bytes + n = omega (arith, length-append bytes (take n buf), length-take-le n buf within) in
-    rw (size, take-add) (ap (λ (front : List ℕ). front ++ take n (drop (length bytes) file)) begins ∙ ap (λ (back : List ℕ). bytes ++ back) (sym reads.given))
+    let size : length (bytes ++ take n buf) ≡ length bytes + n =
+    omega (arith, length-append bytes (take n buf), length-take-le n buf within) in
+    rw (size, take-add) (ap (λ (front : List ℕ). front ++ take n (drop (length bytes) file)) begins
+    ∙ ap (λ (back : List ℕ). bytes ++ back) (sym reads.given))
 
 -- after one more read
 pub loading_goes_on : (old now new : ShelfState) (name bytes buf more : List ℕ) (at n : ℕ) → at ≡ length bytes →
@@ -65,7 +67,8 @@ pub loading_goes_on : (old now new : ShelfState) (name bytes buf more : List ℕ
     more ≡ bytes ++ take n buf → IsLoading old new name more
 loading_goes_on old now new name bytes buf more at n here so_far goes_on same counts no_change last calm within reads grown =
     let P : List ℕ → Type 0 = λ b. IsLoading old new name b in
-    let size : length (bytes ++ take n buf) ≡ length bytes + n = omega (arith, length-append bytes (take n buf), length-take-le n buf within) in
+    let size : length (bytes ++ take n buf) ≡ length bytes + n =
+    omega (arith, length-append bytes (take n buf), length-take-le n buf within) in
     subst P (sym grown) (record {
       goes_on = record {
         later = omega arith;
@@ -75,13 +78,19 @@ loading_goes_on old now new name bytes buf more at n here so_far goes_on same co
         honest = cc;
       };
       same = cc;
-      taken = counts.0 ∙ ap (λ (t : ℕ). counted t n) so_far.taken ∙ counted-counted old.taken (length bytes) n ∙ ap (λ (k : ℕ). counted old.taken k) (sym size);
+      taken = counts.0 ∙ ap (λ (t : ℕ). counted t n) so_far.taken ∙ counted-counted old.taken (length bytes) n
+          ∙ ap (λ (k : ℕ). counted old.taken k) (sym size);
       absent = cc;
       last_failed = cc;
       faults = cc;
-      no_change = record { creates = no_change.creates ∙ so_far.no_change.creates; appends = no_change.appends ∙ so_far.no_change.appends };
+      no_change = record {
+        creates = no_change.creates ∙ so_far.no_change.creates;
+        appends = no_change.appends
+            ∙ so_far.no_change.appends;
+      };
       begins = λ t.
           let Q : (List ℕ → Option (List ℕ)) → Type 0 = λ f. Reads (f name) (length bytes) (Some n) buf in
           let R : ℕ → Type 0 = λ k. Reads (now.file name) k (Some n) buf in
-          begins_more (old.file name) bytes buf n within (so_far.begins t) (subst Q so_far.same (subst R here (reads (so_far.goes_on.tells ∙ t))));
+          begins_more (old.file name) bytes buf n within (so_far.begins t)
+          (subst Q so_far.same (subst R here (reads (so_far.goes_on.tells ∙ t))));
     })

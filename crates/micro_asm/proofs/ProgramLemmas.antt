@@ -41,18 +41,23 @@ unmapped f (Some x) none = absurd (cc none)
 record AreKnown (facts : Facts) (start : StartLine) : Type 0 where
   pub start_known : has_label facts.instrs start.label ≡ true
   pub pins_known : (k : ℕ) (pin : PinLine) → slice_get facts.pins k ≡ Some pin → has_label facts.instrs pin.label ≡ true
-  pub targets_known : (k : ℕ) (instr : NamedInstr) → slice_get facts.instrs k ≡ Some instr → list_any (is_unknown facts.instrs) instr.targets ≡ false
+  pub targets_known : (k : ℕ) (instr : NamedInstr) → slice_get facts.instrs k ≡ Some instr
+      → list_any (is_unknown facts.instrs) instr.targets ≡ false
 
 are_known : (facts : Facts) (start : StartLine) → unknown_line facts start ≡ None → AreKnown facts start
 are_known facts start none =
     let instrs : List NamedInstr = facts.instrs in
     let one : (unknown_start instrs start ≡ None) × (first_line (unknown_pin instrs facts.pins) (unknown_target instrs) ≡ None) =
     no_line (unknown_start instrs start) (first_line (unknown_pin instrs facts.pins) (unknown_target instrs)) none in
-    let two : (unknown_pin instrs facts.pins ≡ None) × (unknown_target instrs ≡ None) = no_line (unknown_pin instrs facts.pins) (unknown_target instrs) one.1 in
+    let two : (unknown_pin instrs facts.pins ≡ None)
+    × (unknown_target instrs ≡ None) = no_line (unknown_pin instrs facts.pins) (unknown_target instrs) one.1 in
     record {
       start_known = known (has_label instrs start.label) start.line one.0;
-      pins_known = λ k pin at. not-false (has_label instrs pin.label) (missed_at (λ (p : PinLine). not (has_label instrs p.label)) facts.pins k pin (unmapped (λ (p : PinLine). p.line) (find (λ (p : PinLine). not (has_label instrs p.label)) facts.pins) two.0) at);
-      targets_known = λ k instr at. missed_at (λ (i : NamedInstr). list_any (is_unknown instrs) i.targets) instrs k instr (unmapped (λ (i : NamedInstr). i.line) (find (λ (i : NamedInstr). list_any (is_unknown instrs) i.targets) instrs) two.1) at;
+      pins_known = λ k pin at. not-false (has_label instrs pin.label)
+          (missed_at (λ (p : PinLine). not (has_label instrs p.label)) facts.pins k pin
+          (unmapped (λ (p : PinLine). p.line) (find (λ (p : PinLine). not (has_label instrs p.label)) facts.pins) two.0) at);
+      targets_known = λ k instr at. missed_at (λ (i : NamedInstr). list_any (is_unknown instrs) i.targets) instrs k instr
+          (unmapped (λ (i : NamedInstr). i.line) (find (λ (i : NamedInstr). list_any (is_unknown instrs) i.targets) instrs) two.1) at;
     }
   where
     known : (b : Bool) (line : ℕ) → cond b None (Some line) ≡ None → b ≡ true
@@ -62,17 +67,21 @@ are_known facts start none =
 -- ---- targets
 
 -- known targets of which one is a label are labels in range of which one is a label
-some_target : (instrs : List NamedInstr) (targets : List (Option (List ℕ))) → list_any (is_unknown instrs) targets ≡ false → list_any is_some targets ≡ true → list_any is_some (map (target_place instrs) targets) ≡ true
+some_target : (instrs : List NamedInstr) (targets : List (Option (List ℕ))) → list_any (is_unknown instrs) targets ≡ false
+    → list_any is_some targets ≡ true → list_any is_some (map (target_place instrs) targets) ≡ true
 some_target instrs [] known has = absurd (cc has)
 some_target instrs (None ∷ targets) known has = some_target instrs targets known has
 some_target instrs (Some name ∷ targets) known has =
-    let here : not (has_label instrs name) ≡ false = (or_parts (not (has_label instrs name)) (list_any (is_unknown instrs) targets) known).0 in
+    let here : not (has_label instrs name) ≡ false =
+    (or_parts (not (has_label instrs name)) (list_any (is_unknown instrs) targets) known).0 in
     let place : (place : ℕ) × StandsAt instrs name place = stands instrs name (not-false (has_label instrs name) here) in
     or_left (is_some (label_place instrs name)) (list_any is_some (map (target_place instrs) targets)) (ap is_some place.1.is_place)
 
-targets_within : (instrs : List NamedInstr) (targets : List (Option (List ℕ))) → AreTargets (length instrs) (map (target_place instrs) targets)
+targets_within : (instrs : List NamedInstr) (targets : List (Option (List ℕ)))
+    → AreTargets (length instrs) (map (target_place instrs) targets)
 targets_within instrs targets outcome label at =
-    let from : (target : Option (List ℕ)) × (slice_get targets outcome ≡ Some target) × (target_place instrs target ≡ Some label) = from_map (target_place instrs) targets outcome (Some label) at in
+    let from : (target : Option (List ℕ)) × (slice_get targets outcome ≡ Some target)
+    × (target_place instrs target ≡ Some label) = from_map (target_place instrs) targets outcome (Some label) at in
     within from.0 from.2
   where
     within : (target : Option (List ℕ)) → target_place instrs target ≡ Some label → label < length instrs
@@ -84,16 +93,23 @@ targets_within instrs targets outcome label at =
 all_at : {X : Type 0} (P : X → Type 0) (xs : List X) (k : ℕ) (x : X) → All P xs → slice_get xs k ≡ Some x → P x
 all_at P xs k x all at = subst P (get_or_from_slice_get xs k x x at) (All-get_or P xs k x (slice_get_within xs k x at) all)
 
-label_at : (all instrs : List NamedInstr) (k : ℕ) (instr : Instr) → slice_get (map (instr_of all) instrs) k ≡ Some instr → slice_get (labels_of instrs) k ≡ Some instr.name
+label_at : (all instrs : List NamedInstr) (k : ℕ) (instr : Instr) → slice_get (map (instr_of all) instrs) k ≡ Some instr
+    → slice_get (labels_of instrs) k ≡ Some instr.name
 label_at all instrs k instr at =
-    let from : (line : NamedInstr) × (slice_get instrs k ≡ Some line) × (instr_of all line ≡ instr) = from_map (instr_of all) instrs k instr at in
-    slice_get-map (λ (i : NamedInstr). i.label) instrs k ∙ ap (option_map (λ (i : NamedInstr). i.label)) from.1 ∙ ap (λ (i : Instr). Some i.name) from.2
+    let from : (line : NamedInstr) × (slice_get instrs k ≡ Some line)
+    × (instr_of all line ≡ instr) = from_map (instr_of all) instrs k instr at in
+    slice_get-map (λ (i : NamedInstr). i.label) instrs k ∙ ap (option_map (λ (i : NamedInstr). i.label)) from.1
+    ∙ ap (λ (i : Instr). Some i.name) from.2
 
-instr_fits : (facts : Facts) (start : StartLine) → IsSound facts → AreKnown facts start → (k : ℕ) (instr : Instr) → slice_get (map (instr_of facts.instrs) facts.instrs) k ≡ Some instr → IsInstr (length (map (instr_of facts.instrs) facts.instrs)) instr
+instr_fits : (facts : Facts) (start : StartLine) → IsSound facts → AreKnown facts start → (k : ℕ) (instr : Instr)
+    → slice_get (map (instr_of facts.instrs) facts.instrs) k ≡ Some instr
+    → IsInstr (length (map (instr_of facts.instrs) facts.instrs)) instr
 instr_fits facts start sound known k instr at =
     let instrs : List NamedInstr = facts.instrs in
-    let from : (line : NamedInstr) × (slice_get instrs k ≡ Some line) × (instr_of instrs line ≡ instr) = from_map (instr_of instrs) instrs k instr at in
-    let line : IsNamedInstr (declaration_so_far facts.declared) from.0 = all_at (IsNamedInstr (declaration_so_far facts.declared)) instrs k from.0 sound.instrs from.1 in
+    let from : (line : NamedInstr) × (slice_get instrs k ≡ Some line)
+    × (instr_of instrs line ≡ instr) = from_map (instr_of instrs) instrs k instr at in
+    let line : IsNamedInstr (declaration_so_far facts.declared) from.0 =
+    all_at (IsNamedInstr (declaration_so_far facts.declared)) instrs k from.0 sound.instrs from.1 in
     let count : length instrs ≡ length (map (instr_of instrs) instrs) = sym (length-map instrs (instr_of instrs)) in
     let placed : IsInstr (length instrs) (instr_of instrs from.0) = record {
       name_not_empty = line.name.some;
@@ -112,10 +128,13 @@ record IsPlaced (facts : Facts) (k : ℕ) (pin : Pin) : Type 0 where
   pub at : slice_get (pinned_labels facts.pins) k ≡ Some line.label
   pub stands_at : StandsAt facts.instrs line.label pin.label
 
-pin_placed : (facts : Facts) (start : StartLine) → AreKnown facts start → (k : ℕ) (pin : Pin) → slice_get (map (pin_of facts.instrs) facts.pins) k ≡ Some pin → IsPlaced facts k pin
+pin_placed : (facts : Facts) (start : StartLine) → AreKnown facts start → (k : ℕ) (pin : Pin)
+    → slice_get (map (pin_of facts.instrs) facts.pins) k ≡ Some pin → IsPlaced facts k pin
 pin_placed facts start known k pin at =
-    let from : (line : PinLine) × (slice_get facts.pins k ≡ Some line) × (pin_of facts.instrs line ≡ pin) = from_map (pin_of facts.instrs) facts.pins k pin at in
-    let place : (place : ℕ) × StandsAt facts.instrs from.0.label place = stands facts.instrs from.0.label (known.pins_known k from.0 from.1) in
+    let from : (line : PinLine) × (slice_get facts.pins k ≡ Some line)
+    × (pin_of facts.instrs line ≡ pin) = from_map (pin_of facts.instrs) facts.pins k pin at in
+    let place : (place : ℕ)
+    × StandsAt facts.instrs from.0.label place = stands facts.instrs from.0.label (known.pins_known k from.0 from.1) in
     let label : place.0 ≡ pin.label = sym (ap (λ (o : Option ℕ). unwrap_or o 0) place.1.is_place) ∙ ap (λ (p : Pin). p.label) from.2 in
     record {
       line = from.0;
@@ -134,7 +153,8 @@ same_name instrs a b i j at_i at_j same =
 -- ---- the whole
 
 pub program_fits : (facts : Facts) (start : StartLine) → IsSound facts → unknown_line facts start ≡ None
-    → IsProgram (unwrap_or facts.rows 32) (unwrap_or (label_place facts.instrs start.label) 0) (map (pin_of facts.instrs) facts.pins) (map (instr_of facts.instrs) facts.instrs)
+    → IsProgram (unwrap_or facts.rows 32) (unwrap_or (label_place facts.instrs start.label) 0) (map (pin_of facts.instrs) facts.pins)
+    (map (instr_of facts.instrs) facts.instrs)
 program_fits facts start sound none =
     let instrs : List NamedInstr = facts.instrs in
     let known : AreKnown facts start = are_known facts start none in
@@ -147,33 +167,43 @@ program_fits facts start sound none =
       start_in_range = rw (first.1.is_place, count) first.1.within;
       each_instr = instr_fits facts start sound known;
       names_differ = λ i j x y at_i at_j same.
-          apart_at (labels_of instrs) i j x.name y.name sound.labels_apart (label_at instrs instrs i x at_i) (label_at instrs instrs j y at_j) (subst (λ (n : List ℕ). bytes_eq x.name n ≡ true) same (nat_list_eq_equiv.refl x.name));
+          apart_at (labels_of instrs) i j x.name y.name sound.labels_apart (label_at instrs instrs i x at_i)
+          (label_at instrs instrs j y at_j) (subst (λ (n : List ℕ). bytes_eq x.name n ≡ true) same (nat_list_eq_equiv.refl x.name));
       pins_in_range = λ k pin at. rw count (pin_placed facts start known k pin at).stands_at.within;
       pinned_once = λ k l p q at_k at_l same.
           (let placed_p = pin_placed facts start known k p at_k in
           let placed_q = pin_placed facts start known l q at_l in
-          apart_at (pinned_labels facts.pins) k l placed_p.line.label placed_q.line.label sound.pins_apart placed_p.at placed_q.at (same_name instrs placed_p.line.label placed_q.line.label p.label q.label placed_p.stands_at placed_q.stands_at same));
+          apart_at (pinned_labels facts.pins) k l placed_p.line.label placed_q.line.label sound.pins_apart placed_p.at placed_q.at
+          (same_name instrs placed_p.line.label placed_q.line.label p.label q.label placed_p.stands_at placed_q.stands_at same));
     }
 
 -- a start whose label is known has a place
 pub start_placed : (facts : Facts) (start : StartLine) → unknown_line facts start ≡ None → label_place facts.instrs start.label ≡ None → ⊥
 start_placed facts start none lost =
-    let first : (place : ℕ) × StandsAt facts.instrs start.label place = stands facts.instrs start.label (are_known facts start none).start_known in
+    let first : (place : ℕ)
+    × StandsAt facts.instrs start.label place = stands facts.instrs start.label (are_known facts start none).start_known in
     let e : Some first.0 ≡ None = sym first.1.is_place ∙ lost in
     cc e
 
 -- what is completed is what was declared
-completes : (slices : Option ℕ) (declared : Declared) (decl : Declaration) → completed_with slices declared ≡ Ok decl → declaration_with (unwrap_or slices 1) declared ≡ decl
+completes : (slices : Option ℕ) (declared : Declared) (decl : Declaration) → completed_with slices declared ≡ Ok decl
+    → declaration_with (unwrap_or slices 1) declared ≡ decl
 completes None declared decl e = absurd (cc e)
 completes (Some slices) declared decl e = cc e
 
-microword_fits : (facts : Facts) (decl : Declaration) → IsSound facts → completed facts.declared ≡ Ok decl → (label : ℕ) (instr : Instr) → slice_get (map (instr_of facts.instrs) facts.instrs) label ≡ Some instr → FitsDeclaration decl instr
+microword_fits : (facts : Facts) (decl : Declaration) → IsSound facts → completed facts.declared ≡ Ok decl → (label : ℕ) (instr : Instr)
+    → slice_get (map (instr_of facts.instrs) facts.instrs) label ≡ Some instr → FitsDeclaration decl instr
 microword_fits facts decl sound e label instr at =
     let instrs : List NamedInstr = facts.instrs in
-    let from : (line : NamedInstr) × (slice_get instrs label ≡ Some line) × (instr_of instrs line ≡ instr) = from_map (instr_of instrs) instrs label instr at in
-    let line : IsNamedInstr (declaration_so_far facts.declared) from.0 = all_at (IsNamedInstr (declaration_so_far facts.declared)) instrs label from.0 sound.instrs from.1 in
-    let placed : FitsDeclaration (declaration_so_far facts.declared) (instr_of instrs from.0) = record { kbits = line.kbits; shift = line.shift; values = line.values } in
-    subst (λ (d : Declaration). FitsDeclaration d instr) (completes facts.declared.slices facts.declared decl e) (subst (FitsDeclaration (declaration_so_far facts.declared)) from.2 placed)
+    let from : (line : NamedInstr) × (slice_get instrs label ≡ Some line)
+    × (instr_of instrs line ≡ instr) = from_map (instr_of instrs) instrs label instr at in
+    let line : IsNamedInstr (declaration_so_far facts.declared) from.0 =
+    all_at (IsNamedInstr (declaration_so_far facts.declared)) instrs label from.0 sound.instrs from.1 in
+    let placed : FitsDeclaration (declaration_so_far facts.declared) (instr_of instrs from.0) =
+    record { kbits = line.kbits; shift = line.shift; values = line.values } in
+    subst (λ (d : Declaration). FitsDeclaration d instr) (completes facts.declared.slices facts.declared decl e)
+    (subst (FitsDeclaration (declaration_so_far facts.declared)) from.2 placed)
 
-pub microwords_fit : (facts : Facts) (decl : Declaration) → IsSound facts → completed facts.declared ≡ Ok decl → AllFitDeclaration decl (map (instr_of facts.instrs) facts.instrs)
+pub microwords_fit : (facts : Facts) (decl : Declaration) → IsSound facts → completed facts.declared ≡ Ok decl
+    → AllFitDeclaration decl (map (instr_of facts.instrs) facts.instrs)
 microwords_fit facts decl sound e = record { each = microword_fits facts decl sound e }

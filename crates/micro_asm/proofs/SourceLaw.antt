@@ -25,10 +25,19 @@ use Rattle.micro_asm.specs.SourceLines.{source_line_form}
 facts_push : (earlier : List Line) (line : Line) → facts_of (earlier ++ line ∷ []) ≡ with_line (facts_of earlier) line
 facts_push earlier Nothing = simp (filter_map-append, append-nil)
 facts_push earlier (Declares directive) =
-    let declared : declared_by (filter_map directive_in (earlier ++ Declares directive ∷ [])) ≡ with_directive (declared_by (filter_map directive_in earlier)) directive =
-    ap declared_by (filter_map-append directive_in earlier (Declares directive ∷ [])) ∙ declared_push (filter_map directive_in earlier) directive in
+    let declared : declared_by (filter_map directive_in (earlier ++ Declares directive ∷ [])) ≡ with_directive
+    (declared_by (filter_map directive_in earlier)) directive =
+    ap declared_by (filter_map-append directive_in earlier (Declares directive ∷ []))
+    ∙ declared_push (filter_map directive_in earlier) directive in
     let with_declared : Declared → Facts = λ d.
-    record { declared = d; rows = first (filter_map rows_in (earlier ++ Declares directive ∷ [])); start = first (filter_map start_in (earlier ++ Declares directive ∷ [])); pins = filter_map pin_in (earlier ++ Declares directive ∷ []); instrs = filter_map instr_in (earlier ++ Declares directive ∷ []) } in
+    record {
+      declared = d;
+      rows = first (filter_map rows_in (earlier ++ Declares directive ∷ []));
+      start = first (filter_map start_in (earlier ++ Declares directive ∷ []));
+      pins = filter_map pin_in (earlier ++ Declares directive ∷ []);
+      instrs = filter_map instr_in (earlier ++ Declares directive ∷ []);
+    }
+    in
     ap with_declared declared ∙ simp (filter_map-append, append-nil)
 facts_push earlier (Rows rows) = simp (filter_map-append, first_push, append-nil)
 facts_push earlier (Starts start) = simp (filter_map-append, first_push, append-nil)
@@ -52,11 +61,13 @@ formed_line earlier number (Ok source_line) = taken_one earlier (judged (facts_o
 formed_line earlier number (Err kind) = refl
 
 worded_line : (earlier : List Line) (number : ℕ) (words : Result (List Word) AsmKind)
-    → (words >>= source_line_form >>= after_source_line (facts_of earlier) number) ≡ ((words >>= source_line_form >>= judged (facts_of earlier) number) >>= after earlier)
+    → (words >>= source_line_form >>= after_source_line (facts_of earlier) number)
+    ≡ ((words >>= source_line_form >>= judged (facts_of earlier) number) >>= after earlier)
 worded_line earlier number (Ok words) = formed_line earlier number (source_line_form words)
 worded_line earlier number (Err kind) = refl
 
-line_taken : (earlier : List Line) (line : List ℕ) → after_line (facts_of earlier) (length earlier + 1) line ≡ (line_read earlier line >>= after earlier)
+line_taken : (earlier : List Line) (line : List ℕ)
+    → after_line (facts_of earlier) (length earlier + 1) line ≡ (line_read earlier line >>= after earlier)
 unfolding after_line line_read
 line_taken earlier line = worded_line earlier (length earlier + 1) (words_of line)
 
@@ -64,18 +75,24 @@ abbrev all_read : List Line → Result Facts (ℕ × AsmKind)
 all_read read = Ok (facts_of read)
 
 goes_on : (earlier : List Line) (rest : List (List ℕ)) (number : ℕ)
-    → ((read : Line) → after_lines (facts_of (earlier ++ read ∷ [])) (number + 1) rest ≡ (lines_read (earlier ++ read ∷ []) rest >>= all_read))
+    → ((read : Line) → after_lines (facts_of (earlier ++ read ∷ [])) (number + 1)
+    rest ≡ (lines_read (earlier ++ read ∷ []) rest >>= all_read))
     → (read : Result Line AsmKind)
-    → (in_line number (read >>= after earlier) >>= λ more. after_lines more (number + 1) rest) ≡ ((in_line number read >>= λ said. lines_read (earlier ++ said ∷ []) rest) >>= all_read)
+    → (in_line number (read >>= after earlier) >>= λ more. after_lines more (number + 1) rest)
+    ≡ ((in_line number read >>= λ said. lines_read (earlier ++ said ∷ []) rest) >>= all_read)
 goes_on earlier rest number more (Ok read) = more read
 goes_on earlier rest number more (Err kind) = refl
 
-lines_taken : (earlier : List Line) (rest : List (List ℕ)) → after_lines (facts_of earlier) (length earlier + 1) rest ≡ (lines_read earlier rest >>= all_read)
+lines_taken : (earlier : List Line) (rest : List (List ℕ))
+    → after_lines (facts_of earlier) (length earlier + 1) rest ≡ (lines_read earlier rest >>= all_read)
 unfolding after_lines lines_read
 lines_taken earlier [] = refl
 lines_taken earlier (line ∷ rest) =
-    ap (λ (r : Result Facts AsmKind). in_line (length earlier + 1) r >>= λ more. after_lines more (length earlier + 1 + 1) rest) (line_taken earlier line)
-    ∙ goes_on earlier rest (length earlier + 1) (λ read. ap (λ (k : ℕ). after_lines (facts_of (earlier ++ read ∷ [])) k rest) (omega (arith, length-append earlier (read ∷ []))) ∙ lines_taken (earlier ++ read ∷ []) rest) (line_read earlier line)
+    ap (λ (r : Result Facts AsmKind). in_line (length earlier + 1) r >>= λ more. after_lines more (length earlier + 1 + 1) rest)
+    (line_taken earlier line)
+    ∙ goes_on earlier rest (length earlier + 1)
+    (λ read. ap (λ (k : ℕ). after_lines (facts_of (earlier ++ read ∷ [])) k rest) (omega (arith, length-append earlier (read ∷ [])))
+    ∙ lines_taken (earlier ++ read ∷ []) rest) (line_read earlier line)
 
 finished : (read : Result (List Line) (ℕ × AsmKind)) → (read >>= λ all. program_of (facts_of all)) ≡ ((read >>= all_read) >>= program_of)
 finished (Ok all) = refl
@@ -83,21 +100,26 @@ finished (Err refused) = refl
 
 -- a source is what its lines say one after the other, finished
 source_is : (bytes : List ℕ) → source_of bytes ≡ (after_lines (facts_of []) 1 (lines bytes) >>= program_of)
-source_is bytes = finished (lines_read [] (lines bytes)) ∙ ap (λ (r : Result Facts (ℕ × AsmKind)). r >>= program_of) (sym (lines_taken [] (lines bytes)))
+source_is bytes = finished (lines_read [] (lines bytes))
+    ∙ ap (λ (r : Result Facts (ℕ × AsmKind)). r >>= program_of) (sym (lines_taken [] (lines bytes)))
 
 -- ---- what `assemble` needs
 
 -- what refuses the first of some lines refuses them all
-pub refused_line : (fault : LineRefusal AsmKind) (facts : Facts) (number : ℕ) (line : List ℕ) (rest : List (List ℕ)) → Refuses fault (after_line facts number line) → RefusesAt (fault_at number fault) (after_lines facts number (line ∷ rest))
+pub refused_line : (fault : LineRefusal AsmKind) (facts : Facts) (number : ℕ) (line : List ℕ) (rest : List (List ℕ))
+    → Refuses fault (after_line facts number line) → RefusesAt (fault_at number fault) (after_lines facts number (line ∷ rest))
 unfolding after_lines
 refused_line line_faults.OutOfMemory facts number line rest h = tt
-refused_line (line_faults.Kind kind) facts number line rest h = ap (λ (r : Result Facts AsmKind). in_line number r >>= λ more. after_lines more (number + 1) rest) h
+refused_line (line_faults.Kind kind) facts number line rest h =
+    ap (λ (r : Result Facts AsmKind). in_line number r >>= λ more. after_lines more (number + 1) rest) h
 
 -- what refuses a line refuses the source
-pub refused_in : (fault : Refusal AsmKind) (bytes : List ℕ) → RefusesAt fault (after_lines (facts_of []) 1 (lines bytes)) → RefusesAt fault (source_of bytes)
+pub refused_in : (fault : Refusal AsmKind) (bytes : List ℕ) → RefusesAt fault (after_lines (facts_of []) 1 (lines bytes))
+    → RefusesAt fault (source_of bytes)
 refused_in faults.OutOfMemory bytes h = tt
 refused_in (faults.At line kind) bytes h = source_is bytes ∙ ap (λ (r : Result Facts (ℕ × AsmKind)). r >>= program_of) h
 
 -- what the lines say is finished
-pub finished_in : (facts : Facts) (bytes : List ℕ) → after_lines (facts_of []) 1 (lines bytes) ≡ Ok facts → source_of bytes ≡ program_of facts
+pub finished_in : (facts : Facts) (bytes : List ℕ) → after_lines (facts_of []) 1 (lines bytes) ≡ Ok facts
+    → source_of bytes ≡ program_of facts
 finished_in facts bytes h = source_is bytes ∙ ap (λ (r : Result Facts (ℕ × AsmKind)). r >>= program_of) h

@@ -52,14 +52,16 @@ all_or_none slices ones = if ones then 2 ^ (2 * slices) - 1 else 0
 -- the function code and the mask of a mnemonic with a register, or why they are refused
 abbrev pub mnemonic_code : ℕ → ℕ → List ℕ → Option Mnemonic → Result (ℕ × ℕ) AsmKind
 mnemonic_code slices kbus register None = Err kinds.Mnemonic
-mnemonic_code slices kbus register (Some row) = coded_for slices kbus row.function row.group (all_or_none slices row.ones) (register_named register)
+mnemonic_code slices kbus register (Some row) =
+    coded_for slices kbus row.function row.group (all_or_none slices row.ones) (register_named register)
 
 -- the function code and the mask of an operation on so many slices, which so many K bits share
 unfoldable pub operation_code : ℕ → ℕ → Operation → Result (ℕ × ℕ) AsmKind
 operation_code slices kbus (operations.Code function group register mask) =
     if nat_lt 7 function || nat_lt group 1 || nat_lt 3 group then Err kinds.Function
     else coded_for slices kbus function group mask (register_named register)
-operation_code slices kbus (operations.Mnemonic name register) = mnemonic_code slices kbus register (find (λ row. bytes_eq name row.name) mnemonic_table)
+operation_code slices kbus (operations.Mnemonic name register) =
+    mnemonic_code slices kbus register (find (λ row. bytes_eq name row.name) mnemonic_table)
 
 -- some K bits give the mask, and that of the right shift is 0
 pub record FitsBus (slices kbus : ℕ) (code : ℕ × ℕ) : Type 0 where

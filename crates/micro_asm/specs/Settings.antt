@@ -86,7 +86,8 @@ or_else (Some kind) later = Some kind
 -- why the first refused of these settings is refused, after earlier ones
 unfoldable pub settings_refusal : List Field → List Setting → List Setting → Option AsmKind
 settings_refusal fields earlier [] = None
-settings_refusal fields earlier (setting ∷ later) = or_else (setting_refusal fields earlier setting) (settings_refusal fields (earlier ++ setting ∷ []) later)
+settings_refusal fields earlier (setting ∷ later) =
+    or_else (setting_refusal fields earlier setting) (settings_refusal fields (earlier ++ setting ∷ []) later)
 
 -- ---- what accepted settings give
 

@@ -28,7 +28,8 @@ line_read earlier line = words_of line >>= source_line_form >>= judged (facts_of
 -- what these and the further lines say, or the first line that is refused, by its number
 unfoldable pub lines_read : List Line → List (List ℕ) → Result (List Line) (ℕ × AsmKind)
 lines_read earlier [] = Ok earlier
-lines_read earlier (line ∷ rest) = in_line (length earlier + 1) (line_read earlier line) >>= λ read. lines_read (earlier ++ read ∷ []) rest
+lines_read earlier (line ∷ rest) =
+    in_line (length earlier + 1) (line_read earlier line) >>= λ read. lines_read (earlier ++ read ∷ []) rest
 
 -- ---- labels that no instruction has
 
@@ -57,7 +58,8 @@ first_line (Some line) (Some other) = if nat_lt other line then Some other else 
 
 -- the first line, a start, a pin or an instruction, that names an unknown label
 abbrev pub unknown_line : Facts → StartLine → Option ℕ
-unknown_line facts start = first_line (unknown_start facts.instrs start) (first_line (unknown_pin facts.instrs facts.pins) (unknown_target facts.instrs))
+unknown_line facts start =
+    first_line (unknown_start facts.instrs start) (first_line (unknown_pin facts.instrs facts.pins) (unknown_target facts.instrs))
 
 -- ---- the program
 

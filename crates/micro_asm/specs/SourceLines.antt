@@ -62,7 +62,8 @@ target_of _ = None
 -- `|` FLOW TARGETS, behind an operation and its settings
 abbrev pub flow_form : List ℕ → Operation → List Setting → List Word → Result SourceLine AsmKind
 flow_form label operation settings (words.Bar ∷ words.Name flow ∷ targets) =
-    if list_all is_target targets then Ok (Instruct (record { label = label; operation = operation; settings = settings; flow = flow; targets = map target_of targets }))
+    if list_all is_target targets then Ok
+    (Instruct (record { label = label; operation = operation; settings = settings; flow = flow; targets = map target_of targets }))
     else Err kinds.Shape
 flow_form label operation settings _ = Err kinds.Shape
 

@@ -23,7 +23,8 @@ no_number true n e = cc
 no_number false n e = cc
 
 -- of the tests of a run, a name passes neither
-tests_failed : (digit digits hexadecimal long : Bool) (decimal other : Result TokenKind Cause) → (IsNamed decimal → ⊥) → (IsNamed other → ⊥)
+tests_failed : (digit digits hexadecimal long : Bool) (decimal other : Result TokenKind Cause) → (IsNamed decimal → ⊥)
+    → (IsNamed other → ⊥)
     → IsNamed (cond digit (cond digits decimal (cond hexadecimal other (Err BadNumber))) (cond long (Err NameTooLong) (Ok Name)))
     → (digit ≡ false) × (long ≡ false)
 tests_failed true true hexadecimal long decimal other no_decimal no_other e = absurd (no_decimal e)
@@ -36,7 +37,8 @@ tests_failed false digits hexadecimal false decimal other no_decimal no_other e 
 name_tests : (run : List ℕ) → run_kind run ≡ Ok Name → (is_ascii_digit (slice_index run 0) ≡ false) × (ltb 32 (length run) ≡ false)
 unfolding run_kind
 name_tests run e =
-    tests_failed (is_ascii_digit (slice_index run 0)) (list_all is_ascii_digit run) (is_hexadecimal run) (ltb 32 (length run)) (number_kind 10 run) (number_kind 16 (drop 2 run))
+    tests_failed (is_ascii_digit (slice_index run 0)) (list_all is_ascii_digit run) (is_hexadecimal run) (ltb 32 (length run))
+    (number_kind 10 run) (number_kind 16 (drop 2 run))
     (no_number (ltb (digits_value 10 run) 340282366920938463463374607431768211456) (digits_value 10 run))
     (no_number (ltb (digits_value 16 (drop 2 run)) 340282366920938463463374607431768211456) (digits_value 16 (drop 2 run)))
     e
@@ -50,7 +52,8 @@ run_is_plain (b ∷ bs) = elim (cases_Bool (is_run_byte b)) [
 ]
 
 -- a run that is read as a name is one
-pub run_is_name : (bs : List ℕ) → 0 < length (take_while is_run_byte bs) → run_kind (take_while is_run_byte bs) ≡ Ok Name → IsName (take_while is_run_byte bs)
+pub run_is_name : (bs : List ℕ) → 0 < length (take_while is_run_byte bs) → run_kind (take_while is_run_byte bs) ≡ Ok Name
+    → IsName (take_while is_run_byte bs)
 run_is_name bs some e =
     let tests = name_tests (take_while is_run_byte bs) e in
     record { some = some; short = ltb-false 32 (length (take_while is_run_byte bs)) tests.1; plain = run_is_plain bs; begins = tests.0 }

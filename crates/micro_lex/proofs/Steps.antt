@@ -32,8 +32,10 @@ goes_on line place (Ok (Some token)) = with_front (token ∷ []) (scan false tok
 goes_on line place (Err fault) = Err fault
 
 -- the rest of the line goes on at the end of what was read
-reads_on : (line : List ℕ) (place end : ℕ) (kind : Result TokenKind Cause) (others : Result (List Token) Fault) → others ≡ scan false end (drop end line)
-    → with_reading (in_column (place + 1) (spanned place end kind)) others ≡ goes_on line place (in_column (place + 1) (spanned place end kind))
+reads_on : (line : List ℕ) (place end : ℕ) (kind : Result TokenKind Cause) (others : Result (List Token) Fault)
+    → others ≡ scan false end (drop end line)
+    → with_reading (in_column (place + 1) (spanned place end kind)) others ≡ goes_on line place
+    (in_column (place + 1) (spanned place end kind))
 reads_on line place end (Ok kind) others h = ap (with_front (record { kind = kind; start = place; end = end } ∷ [])) h
 reads_on line place end (Err cause) others h = refl
 
@@ -42,19 +44,33 @@ begins_none : (place b : ℕ) (bs : List ℕ) → is_space b ≡ true → beginn
 begins_none place b bs s = rw s refl
 
 pub begins_run : (place b : ℕ) (bs : List ℕ) → is_space b ≡ false → is_run_byte b ≡ true
-    → beginning place (b ∷ bs) ≡ spanned place (place + length (take_while is_run_byte (b ∷ bs))) (run_kind (take_while is_run_byte (b ∷ bs)))
+    → beginning place (b ∷ bs) ≡ spanned place (place + length (take_while is_run_byte (b ∷ bs)))
+    (run_kind (take_while is_run_byte (b ∷ bs)))
 begins_run place b bs s w =
-    ap (λ (x : Bool). cond x (Ok None) (cond (is_run_byte b) (spanned place (place + length (take_while is_run_byte (b ∷ bs))) (run_kind (take_while is_run_byte (b ∷ bs)))) (spanned place (place + 1) (mark_kind b)))) s
-    ∙ ap (λ (x : Bool). cond x (spanned place (place + length (take_while is_run_byte (b ∷ bs))) (run_kind (take_while is_run_byte (b ∷ bs)))) (spanned place (place + 1) (mark_kind b))) w
+    ap (λ (x : Bool). cond x (Ok None)
+    (cond (is_run_byte b)
+    (spanned place (place + length (take_while is_run_byte (b ∷ bs))) (run_kind (take_while is_run_byte (b ∷ bs))))
+    (spanned place (place + 1) (mark_kind b)))) s
+    ∙ ap (λ (x : Bool). cond x
+    (spanned place (place + length (take_while is_run_byte (b ∷ bs))) (run_kind (take_while is_run_byte (b ∷ bs))))
+    (spanned place (place + 1) (mark_kind b))) w
 
-begins_mark : (place b : ℕ) (bs : List ℕ) → is_space b ≡ false → is_run_byte b ≡ false → beginning place (b ∷ bs) ≡ spanned place (place + 1) (mark_kind b)
+begins_mark : (place b : ℕ) (bs : List ℕ) → is_space b ≡ false → is_run_byte b ≡ false
+    → beginning place (b ∷ bs) ≡ spanned place (place + 1) (mark_kind b)
 begins_mark place b bs s w =
-    ap (λ (x : Bool). cond x (Ok None) (cond (is_run_byte b) (spanned place (place + length (take_while is_run_byte (b ∷ bs))) (run_kind (take_while is_run_byte (b ∷ bs)))) (spanned place (place + 1) (mark_kind b)))) s
-    ∙ ap (λ (x : Bool). cond x (spanned place (place + length (take_while is_run_byte (b ∷ bs))) (run_kind (take_while is_run_byte (b ∷ bs)))) (spanned place (place + 1) (mark_kind b))) w
+    ap (λ (x : Bool). cond x (Ok None)
+    (cond (is_run_byte b)
+    (spanned place (place + length (take_while is_run_byte (b ∷ bs))) (run_kind (take_while is_run_byte (b ∷ bs))))
+    (spanned place (place + 1) (mark_kind b)))) s
+    ∙ ap (λ (x : Bool). cond x
+    (spanned place (place + length (take_while is_run_byte (b ∷ bs))) (run_kind (take_while is_run_byte (b ∷ bs))))
+    (spanned place (place + 1) (mark_kind b))) w
 
 -- a step over what is read up to this end
-step_to : (line : List ℕ) (place b : ℕ) (bs : List ℕ) (end : ℕ) (kind : Result TokenKind Cause) → beginning place (b ∷ bs) ≡ spanned place end kind → scan (is_run_byte b) (place + 1) bs ≡ scan false end (drop end line)
-    → with_reading (in_column (place + 1) (beginning place (b ∷ bs))) (scan (is_run_byte b) (place + 1) bs) ≡ goes_on line place (in_column (place + 1) (beginning place (b ∷ bs)))
+step_to : (line : List ℕ) (place b : ℕ) (bs : List ℕ) (end : ℕ) (kind : Result TokenKind Cause)
+    → beginning place (b ∷ bs) ≡ spanned place end kind → scan (is_run_byte b) (place + 1) bs ≡ scan false end (drop end line)
+    → with_reading (in_column (place + 1) (beginning place (b ∷ bs))) (scan (is_run_byte b) (place + 1) bs) ≡ goes_on line place
+    (in_column (place + 1) (beginning place (b ∷ bs)))
 step_to line place b bs end kind reading others =
     ap (λ (r : Result (Option Token) Cause). with_reading (in_column (place + 1) r) (scan (is_run_byte b) (place + 1) bs)) reading
     ∙ reads_on line place end kind (scan (is_run_byte b) (place + 1) bs) others
@@ -68,7 +84,8 @@ step_over line place b bs here onward h = scan_begins place b bs h ∙ elim (cas
   | inr s ↦ elim (cases_Bool (is_run_byte b)) [
     | inl w ↦
         (let run : List ℕ = take_while is_run_byte (b ∷ bs) in
-        let rest : drop (length run) (b ∷ bs) ≡ drop (place + length run) line = ap (drop (length run)) (sym here) ∙ drop-drop (length run) place line in
+        let rest : drop (length run) (b ∷ bs) ≡ drop (place + length run) line = ap (drop (length run)) (sym here)
+        ∙ drop-drop (length run) place line in
         step_to line place b bs (place + length run) (run_kind run) (begins_run place b bs s w)
         (ap (λ (r : Bool). scan r (place + 1) bs) w ∙ past_first_run place b bs w ∙ ap (scan false (place + length run)) rest))
     | inr w ↦ step_to line place b bs (place + 1) (mark_kind b) (begins_mark place b bs s w)
@@ -77,7 +94,8 @@ step_over line place b bs here onward h = scan_begins place b bs h ∙ elim (cas
 ]
 
 -- one step of the reading
-step : (line : List ℕ) (place : ℕ) (found : Result (Option Token) Fault) → place < length line → (get_or line place 0 ≡ 35 → ⊥) → token_at line place ≡ found
+step : (line : List ℕ) (place : ℕ) (found : Result (Option Token) Fault) → place < length line → (get_or line place 0 ≡ 35 → ⊥)
+    → token_at line place ≡ found
     → scan false place (drop place line) ≡ goes_on line place found
 unfolding token_at
 step line place found lt h e =
@@ -90,7 +108,8 @@ abbrev found_tokens : List Token → Result (List Token) Fault
 found_tokens found = Ok found
 
 -- one token more at the front of the others
-regroup : (front : List Token) (token : Token) (others : Result (List Token) Fault) → with_front front (with_front (token ∷ []) others) ≡ with_front (front ++ token ∷ []) others
+regroup : (front : List Token) (token : Token) (others : Result (List Token) Fault)
+    → with_front front (with_front (token ∷ []) others) ≡ with_front (front ++ token ∷ []) others
 regroup front token (Ok others) = ap found_tokens (sym (append_assoc front (token ∷ []) others))
 regroup front token (Err fault) = refl
 
@@ -110,18 +129,24 @@ begun line = with_nothing (scan false 0 line) ∙ sym (line_scanned line)
 -- ---- the steps of the loop, which keep what the whole line gives
 
 -- past a space
-pub over_gap : (front : List Token) (line : List ℕ) (place : ℕ) (total : Result (List Token) Fault) → place < length line → (get_or line place 0 ≡ 35 → ⊥) → token_at line place ≡ Ok None
-    → with_front front (scan false place (drop place line)) ≡ total → with_front front (scan false (place + 1) (drop (place + 1) line)) ≡ total
+pub over_gap : (front : List Token) (line : List ℕ) (place : ℕ) (total : Result (List Token) Fault) → place < length line
+    → (get_or line place 0 ≡ 35 → ⊥) → token_at line place ≡ Ok None
+    → with_front front (scan false place (drop place line)) ≡ total
+    → with_front front (scan false (place + 1) (drop (place + 1) line)) ≡ total
 over_gap front line place total lt h e so_far = ap (with_front front) (sym (step line place (Ok None) lt h e)) ∙ so_far
 
 -- past a token
-pub over_token : (front : List Token) (line : List ℕ) (place : ℕ) (token : Token) (total : Result (List Token) Fault) → place < length line → (get_or line place 0 ≡ 35 → ⊥) → token_at line place ≡ Ok (Some token)
-    → with_front front (scan false place (drop place line)) ≡ total → with_front (front ++ token ∷ []) (scan false token.end (drop token.end line)) ≡ total
+pub over_token : (front : List Token) (line : List ℕ) (place : ℕ) (token : Token) (total : Result (List Token) Fault)
+    → place < length line → (get_or line place 0 ≡ 35 → ⊥) → token_at line place ≡ Ok (Some token)
+    → with_front front (scan false place (drop place line)) ≡ total
+    → with_front (front ++ token ∷ []) (scan false token.end (drop token.end line)) ≡ total
 over_token front line place token total lt h e so_far =
-    sym (regroup front token (scan false token.end (drop token.end line))) ∙ ap (with_front front) (sym (step line place (Ok (Some token)) lt h e)) ∙ so_far
+    sym (regroup front token (scan false token.end (drop token.end line)))
+    ∙ ap (with_front front) (sym (step line place (Ok (Some token)) lt h e)) ∙ so_far
 
 -- a fault at a place is the line's
-same_fault : (fault : LexFault) (reading : Result (Option Token) Fault) (total : Result (List Token) Fault) → ((found : Fault) → reading ≡ Err found → total ≡ Err found) → Reports fault reading → Reports fault total
+same_fault : (fault : LexFault) (reading : Result (Option Token) Fault) (total : Result (List Token) Fault)
+    → ((found : Fault) → reading ≡ Err found → total ≡ Err found) → Reports fault reading → Reports fault total
 same_fault faults.OutOfMemory reading total same r = tt
 same_fault (faults.BadByte column) reading total same r = same _ r
 same_fault (faults.BadNumber column) reading total same r = same _ r
@@ -129,20 +154,25 @@ same_fault (faults.NumberTooWide column) reading total same r = same _ r
 same_fault (faults.NameTooLong column) reading total same r = same _ r
 
 -- at a fault
-pub at_fault : (front : List Token) (line : List ℕ) (place : ℕ) (fault : LexFault) (total : Result (List Token) Fault) → place < length line → (get_or line place 0 ≡ 35 → ⊥)
+pub at_fault : (front : List Token) (line : List ℕ) (place : ℕ) (fault : LexFault) (total : Result (List Token) Fault)
+    → place < length line → (get_or line place 0 ≡ 35 → ⊥)
     → with_front front (scan false place (drop place line)) ≡ total → Reports fault (token_at line place) → Reports fault total
 at_fault front line place fault total lt h so_far r =
     same_fault fault (token_at line place) total (λ found e. sym so_far ∙ ap (with_front front) (step line place (Err found) lt h e)) r
 
 -- at the line's end
-pub is_done : (front : List Token) (line : List ℕ) (place : ℕ) (total : Result (List Token) Fault) → length line ≤ place → with_front front (scan false place (drop place line)) ≡ total → total ≡ Ok front
+pub is_done : (front : List Token) (line : List ℕ) (place : ℕ) (total : Result (List Token) Fault) → length line ≤ place
+    → with_front front (scan false place (drop place line)) ≡ total → total ≡ Ok front
 is_done front line place total le so_far =
     sym so_far ∙ ap (with_front front) (ap (scan false place) (drop_all place line le) ∙ scan_end false place) ∙ ended front
 
 -- at the comment
-pub is_cut : (front : List Token) (line : List ℕ) (place : ℕ) (total : Result (List Token) Fault) → place < length line → get_or line place 0 ≡ 35 → with_front front (scan false place (drop place line)) ≡ total → total ≡ Ok front
+pub is_cut : (front : List Token) (line : List ℕ) (place : ℕ) (total : Result (List Token) Fault) → place < length line
+    → get_or line place 0 ≡ 35 → with_front front (scan false place (drop place line)) ≡ total → total ≡ Ok front
 is_cut front line place total lt h so_far =
-    sym so_far ∙ ap (with_front front) (ap (scan false place) (split line place lt) ∙ scan_hash false place (get_or line place 0) (drop (place + 1) line) (eq-eqb (get_or line place 0) 35 h)) ∙ ended front
+    sym so_far ∙ ap (with_front front)
+    (ap (scan false place) (split line place lt)
+    ∙ scan_hash false place (get_or line place 0) (drop (place + 1) line) (eq-eqb (get_or line place 0) 35 h)) ∙ ended front
 
 -- ---- where a token lies
 
@@ -155,11 +185,13 @@ abbrev as_kind : TokenKind → Result TokenKind Cause
 as_kind kind = Ok kind
 
 -- a token between these places lies there
-made_token : (line : List ℕ) (place end : ℕ) (kind : Result TokenKind Cause) (token : Token) → place < end → end ≤ length line → (kind ≡ Ok Name → IsName (slice_range line place end))
+made_token : (line : List ℕ) (place end : ℕ) (kind : Result TokenKind Cause) (token : Token) → place < end → end ≤ length line
+    → (kind ≡ Ok Name → IsName (slice_range line place end))
     → in_column (place + 1) (spanned place end kind) ≡ Ok (Some token) → IsTokenAt line place token
 made_token line place end (Ok kind) token lt le named e =
     let same : record { kind = kind; start = place; end = end } ≡ token = cc in
-    subst (λ (t : Token). IsTokenAt line place t) same (record { lies = record { ordered = omega arith; within = le; named = λ n. named (ap as_kind n) }; goes_on = lt })
+    subst (λ (t : Token). IsTokenAt line place t) same
+    (record { lies = record { ordered = omega arith; within = le; named = λ n. named (ap as_kind n) }; goes_on = lt })
 made_token line place end (Err cause) token lt le named e = absurd cc
 
 -- a space begins no token
@@ -175,28 +207,35 @@ run_some : (b : ℕ) (bs : List ℕ) → is_run_byte b ≡ true → 0 < length (
 run_some b bs w = rw (take_while-cons is_run_byte b bs, w) (omega arith)
 
 -- a token that begins at a place is one of the line
-pub token_lies : (line : List ℕ) (place : ℕ) (token : Token) → place < length line → token_at line place ≡ Ok (Some token) → IsTokenAt line place token
+pub token_lies : (line : List ℕ) (place : ℕ) (token : Token) → place < length line → token_at line place ≡ Ok (Some token)
+    → IsTokenAt line place token
 unfolding token_at
 token_lies line place token lt e =
     let b : ℕ = get_or line place 0 in
     let bs : List ℕ = drop (place + 1) line in
-    let is : in_column (place + 1) (beginning place (b ∷ bs)) ≡ Ok (Some token) = ap (λ (xs : List ℕ). in_column (place + 1) (beginning place xs)) (sym (split line place lt)) ∙ e in
+    let is : in_column (place + 1) (beginning place (b ∷ bs)) ≡ Ok (Some token) =
+    ap (λ (xs : List ℕ). in_column (place + 1) (beginning place xs)) (sym (split line place lt)) ∙ e in
     elim (cases_Bool (is_space b)) [
       | inl s ↦ absurd (none_is_none token (ap (in_column (place + 1)) (sym (begins_none place b bs s)) ∙ is))
       | inr s ↦ elim (cases_Bool (is_run_byte b)) [
         | inl w ↦
             (let run : List ℕ = take_while is_run_byte (b ∷ bs) in
             let some : 0 < length run = run_some b bs w in
-            let fits : length run ≤ length (b ∷ bs) = omega (arith, length-prefix_len is_run_byte (b ∷ bs), prefix_len-le-length is_run_byte (b ∷ bs)) in
+            let fits : length run ≤ length (b ∷ bs) =
+            omega (arith, length-prefix_len is_run_byte (b ∷ bs), prefix_len-le-length is_run_byte (b ∷ bs)) in
             let whole : length (b ∷ bs) ≡ length line - place = ap length (sym (split line place lt)) ∙ length-drop place line in
             let text : slice_range line place (place + length run) ≡ run =
-            ap (λ (n : ℕ). take n (drop place line)) (omega arith) ∙ ap (λ (xs : List ℕ). take (length run) xs) (split line place lt) ∙ ap (λ (n : ℕ). take n (b ∷ bs)) (length-prefix_len is_run_byte (b ∷ bs)) in
+            ap (λ (n : ℕ). take n (drop place line)) (omega arith) ∙ ap (λ (xs : List ℕ). take (length run) xs) (split line place lt)
+            ∙ ap (λ (n : ℕ). take n (b ∷ bs)) (length-prefix_len is_run_byte (b ∷ bs)) in
             made_token line place (place + length run) (run_kind run) token (omega arith) (omega arith)
-            (λ n. subst (λ (xs : List ℕ). IsName xs) (sym text) (run_is_name (b ∷ bs) some n)) (ap (in_column (place + 1)) (sym (begins_run place b bs s w)) ∙ is))
-        | inr w ↦ made_token line place (place + 1) (mark_kind b) token (omega arith) (omega arith) (λ n. absurd (mark_names_nothing b n)) (ap (in_column (place + 1)) (sym (begins_mark place b bs s w)) ∙ is)
+            (λ n. subst (λ (xs : List ℕ). IsName xs) (sym text) (run_is_name (b ∷ bs) some n))
+            (ap (in_column (place + 1)) (sym (begins_run place b bs s w)) ∙ is))
+        | inr w ↦ made_token line place (place + 1) (mark_kind b) token (omega arith) (omega arith) (λ n. absurd (mark_names_nothing b n))
+            (ap (in_column (place + 1)) (sym (begins_mark place b bs s w)) ∙ is)
       ]
     ]
 
 -- one token more lies in the line
-pub spans_push : (line : List ℕ) (front : List Token) (token : Token) → All (IsTokenOf line) front → IsTokenOf line token → All (IsTokenOf line) (front ++ token ∷ [])
+pub spans_push : (line : List ℕ) (front : List Token) (token : Token) → All (IsTokenOf line) front → IsTokenOf line token
+    → All (IsTokenOf line) (front ++ token ∷ [])
 spans_push line front token old new = All-push (IsTokenOf line) front token old new

@@ -9,11 +9,13 @@ use Rattle.micro_lex.specs.Faults.{Cause, BadNumber, NumberTooWide, NameTooLong}
 
 -- the number that the digits stand for, leading zeros allowed; it ends at 128 bits
 abbrev pub number_kind : ℕ → List ℕ → Result TokenKind Cause
-number_kind radix digits = if nat_lt (digits_value radix digits) (2 ^ 128) then Ok (Number (digits_value radix digits)) else Err NumberTooWide
+number_kind radix digits =
+    if nat_lt (digits_value radix digits) (2 ^ 128) then Ok (Number (digits_value radix digits)) else Err NumberTooWide
 
 -- `0x` and at least one hexadecimal digit, in either case
 abbrev pub is_hexadecimal : List ℕ → Bool
-is_hexadecimal run = nat_lt 2 (length run) && slice_index run 0 == 48 && slice_index run 1 == 120 && list_all is_ascii_hexdigit (drop 2 run)
+is_hexadecimal run =
+    nat_lt 2 (length run) && slice_index run 0 == 48 && slice_index run 1 == 120 && list_all is_ascii_hexdigit (drop 2 run)
 
 -- a run that begins with a digit is a number or faulty; any other is a name of at most 32 bytes
 unfoldable pub run_kind : List ℕ → Result TokenKind Cause

@@ -14,7 +14,8 @@ code_of line = take_while (λ b. not (is_hash b)) line
 
 -- the mark that a byte is; any other byte that is neither space nor of a run is faulty
 abbrev pub mark_kind : ℕ → Result TokenKind Cause
-mark_kind b = if b == 58 then Ok Colon else if b == 124 then Ok Bar else if b == 61 then Ok Equals else if b == 45 then Ok Minus else Err BadByte
+mark_kind b = if b == 58 then Ok Colon else if b == 124 then Ok Bar else if b == 61 then Ok Equals else if b == 45 then Ok Minus else Err
+    BadByte
 
 -- the token between two places
 abbrev pub spanned : ℕ → ℕ → Result TokenKind Cause → Result (Option Token) Cause
@@ -25,7 +26,8 @@ spanned start end (Err cause) = Err cause
 abbrev pub beginning : ℕ → List ℕ → Result (Option Token) Cause
 beginning place rest =
     if is_space (slice_index rest 0) then Ok None
-    else if is_run_byte (slice_index rest 0) then spanned place (place + length (take_while is_run_byte rest)) (run_kind (take_while is_run_byte rest))
+    else if is_run_byte (slice_index rest 0) then spanned place (place + length (take_while is_run_byte rest))
+    (run_kind (take_while is_run_byte rest))
     else spanned place (place + 1) (mark_kind (slice_index rest 0))
 
 -- a byte of a run with one before it: a run is maximal, so none begins here

@@ -11,7 +11,8 @@ use Rattle.place_model.specs.Pinned.{IsPinnedTo, ArePinnedCells}
 use Rattle.place_model.proofs.JumpLemmas.{cell_there}
 
 -- the cells of the pins keep the pins
-pub KeepsPins-from_pinned : (g : Graph) (place : List Position) → IsProgram g.rows g.start g.pins g.instrs → ArePinnedCells g place → KeepsPins g.pins place
+pub KeepsPins-from_pinned : (g : Graph) (place : List Position) → IsProgram g.rows g.start g.pins g.instrs → ArePinnedCells g place
+    → KeepsPins g.pins place
 KeepsPins-from_pinned g place valid pinned k pin at =
     let in_range : pin.label < length g.instrs = valid.pins_in_range k pin at in
     let count : length place ≡ length g.instrs = pinned.cell_for_each_label in
@@ -38,10 +39,12 @@ slice_get_last (z ∷ xs) y (suc i) count = slice_get_last xs y i (omega arith)
 
 -- the first labels, as many as count, have the cells of their pins
 abbrev pub ArePinnedBelow : List Pin → List Position → ℕ → Type 0
-ArePinnedBelow pins cells count = (label : ℕ) → label < count → (cell : Position) × (slice_get cells label ≡ Some cell) × IsPinnedTo pins label cell
+ArePinnedBelow pins cells count = (label : ℕ) → label < count
+    → (cell : Position) × (slice_get cells label ≡ Some cell) × IsPinnedTo pins label cell
 
 -- one more label has the cell of its pin
-pub ArePinnedBelow-push : (pins : List Pin) (cells : List Position) (count : ℕ) (cell : Position) → count ≡ length cells → ArePinnedBelow pins cells count → IsPinnedTo pins count cell → ArePinnedBelow pins (cells ++ cell ∷ []) (count + 1)
+pub ArePinnedBelow-push : (pins : List Pin) (cells : List Position) (count : ℕ) (cell : Position) → count ≡ length cells
+    → ArePinnedBelow pins cells count → IsPinnedTo pins count cell → ArePinnedBelow pins (cells ++ cell ∷ []) (count + 1)
 ArePinnedBelow-push pins cells count cell all below here label within = go (cases_lt label count)
   where
     go : (label < count) ⊎ (count ≤ label) → (x : Position) × (slice_get (cells ++ cell ∷ []) label ≡ Some x) × IsPinnedTo pins label x
@@ -52,7 +55,8 @@ ArePinnedBelow-push pins cells count cell all below here label within = go (case
         (cell, slice_get_last cells cell label (omega arith), subst P last here)
 
 -- where all labels have the cells of their pins, these are the pinned cells
-pub ArePinnedCells-from_below : (g : Graph) (place : List Position) → length place ≡ length g.instrs → ArePinnedBelow g.pins place (length place) → ArePinnedCells g place
+pub ArePinnedCells-from_below : (g : Graph) (place : List Position) → length place ≡ length g.instrs
+    → ArePinnedBelow g.pins place (length place) → ArePinnedCells g place
 ArePinnedCells-from_below g place count below = record { cell_for_each_label = count; pinned = pinned }
   where
     pinned : (label : ℕ) (cell : Position) → slice_get place label ≡ Some cell → IsPinnedTo g.pins label cell

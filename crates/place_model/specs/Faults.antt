@@ -25,7 +25,8 @@ pub record StandsAt (g : Graph) (place : List Position) (label : ℕ) (instr : I
 
 -- at a label, this kind is the first thing wrong
 abbrev pub IsFaultAt : Graph → List Position → ℕ → MapKind → Type 0
-IsFaultAt g place label kind = (instr : Instr) × (cell : Position) × StandsAt g place label instr cell × IsWrong g place label instr cell kind
+IsFaultAt g place label kind = (instr : Instr) × (cell : Position) × StandsAt g place label instr cell
+    × IsWrong g place label instr cell kind
 
 -- nothing is wrong with an instruction at a cell
 pub record IsRight (g : Graph) (place : List Position) (label : ℕ) (instr : Instr) (cell : Position) : Type 0 where

@@ -14,7 +14,8 @@ use Rattle.place_model.specs.Cells.{IsAt}
 pub record MeetsLegality (place : List Position) (instr : Instr) (from : Position) (jump : JumpWord) : Type 0 where
   pub in_range : IsJump jump
   pub admitted : Admits instr.kind jump
-  pub landings : (outcome : ℕ) (target : Option ℕ) → slice_get instr.targets outcome ≡ Some target → IsAt place target (lands from jump outcome)
+  pub landings : (outcome : ℕ) (target : Option ℕ) → slice_get instr.targets outcome ≡ Some target
+      → IsAt place target (lands from jump outcome)
 
 -- an instruction may become some jump at this cell
 abbrev pub HasJump : List Position → Instr → Position → Type 0
@@ -51,4 +52,5 @@ pub record IsLegal (g : Graph) (place : List Position) : Type 0 where
   pub pins_kept : KeepsPins g.pins place
   pub start_at_origin : slice_get place g.start ≡ Some origin
   pub below_bound : (label : ℕ) (cell : Position) → slice_get place label ≡ Some cell → cell.row < g.rows
-  pub each_has_jump : (label : ℕ) (instr : Instr) (from : Position) → slice_get g.instrs label ≡ Some instr → slice_get place label ≡ Some from → HasJump place instr from
+  pub each_has_jump : (label : ℕ) (instr : Instr) (from : Position) → slice_get g.instrs label ≡ Some instr
+      → slice_get place label ≡ Some from → HasJump place instr from

@@ -23,9 +23,11 @@ pub record CanJump (place : List Position) (k : Kind) (ts : List (Option ℕ)) (
   pub landings : (o : ℕ) (t : Option ℕ) → slice_get ts o ≡ Some t → IsAt place t (lands from j o)
 
 -- a jump of an instruction is one of its kind and targets
-pub can-from_has : (place : List Position) (x : Instr) (from : Position) → HasJump place x from → (j : JumpWord) × CanJump place x.kind x.targets from j
+pub can-from_has : (place : List Position) (x : Instr) (from : Position) → HasJump place x from
+    → (j : JumpWord) × CanJump place x.kind x.targets from j
 can-from_has place x from h = (h.0, record { jump = h.1.in_range; admitted = h.1.admitted; landings = h.1.landings })
 
 -- and the other way round
-pub has-from_can : (place : List Position) (x : Instr) (from : Position) → (j : JumpWord) × CanJump place x.kind x.targets from j → HasJump place x from
+pub has-from_can : (place : List Position) (x : Instr) (from : Position) → (j : JumpWord) × CanJump place x.kind x.targets from j
+    → HasJump place x from
 has-from_can place x from h = (h.0, record { in_range = h.1.jump; admitted = h.1.admitted; landings = h.1.landings })

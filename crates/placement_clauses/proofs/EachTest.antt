@@ -67,7 +67,8 @@ unfolding flow_clauses
 test_onright = record { kind = kind_onright; cols = cols_onright; few = inr refl; clauses = λ n s ts. refl }
 
 -- the jump of a test, by its clauses
-pub test-jump : (a : ℕ → Bool) (n : ℕ) (place : List Position) (s : ℕ) (from : Position) (k : Kind) (c : Code) (ts : List (Option ℕ)) → IsTest k c
+pub test-jump : (a : ℕ → Bool) (n : ℕ) (place : List Position) (s : ℕ) (from : Position) (k : Kind) (c : Code) (ts : List (Option ℕ))
+    → IsTest k c
     → IsPlaced a n (row_at place) (col_at place) → length place ≡ n → ((i : ℕ) (p : Position) → slice_get place i ≡ Some p → IsCell p)
     → ((i j : ℕ) → i < j → j < n → Differ a n (row_at place) (col_at place) i j) → slice_get place s ≡ Some from → s < n
     → length ts ≡ outcomes_of k → list_any is_some ts ≡ true → InRange ts n
@@ -75,7 +76,9 @@ pub test-jump : (a : ℕ → Bool) (n : ℕ) (place : List Position) (s : ℕ) (
 unfolding InRange
 test-jump a n place s from k c ts is p len cells differ at s_in count some in_range h traps =
     can-test place n k c s ts (first_real ts) (first_label ts) from is.kind len cells at there in_range fits
-    (traps-hold a n (row_at place) (col_at place) k s ts p has s_in x_in (λ x z x_in z_in ne. apart-any a n (row_at place) (col_at place) differ x z x_in z_in ne) (fits.cols (first_real ts) (first_label ts) there) traps)
+    (traps-hold a n (row_at place) (col_at place) k s ts p has s_in x_in
+    (λ x z x_in z_in ne. apart-any a n (row_at place) (col_at place) differ x z x_in z_in ne)
+    (fits.cols (first_real ts) (first_label ts) there) traps)
   where
     there : slice_get ts (first_real ts) ≡ Some (Some (first_label ts))
     there = first-there ts some
@@ -93,15 +96,19 @@ test-jump a n place s from k c ts is p len cells differ at s_in count some in_ra
     fits = test-holds a n (row_at place) (col_at place) k s ts (first_real ts) (first_label ts) p has s_in in_range there here
 
 -- the clauses of a test, by its jump
-pub test-sound : (a : ℕ → Bool) (n : ℕ) (place : List Position) (s : ℕ) (from : Position) (k : Kind) (c : Code) (ts : List (Option ℕ)) (j : JumpWord) → IsTest k c
+pub test-sound : (a : ℕ → Bool) (n : ℕ) (place : List Position) (s : ℕ) (from : Position) (k : Kind) (c : Code) (ts : List (Option ℕ))
+    (j : JumpWord) → IsTest k c
     → IsPlaced a n (row_at place) (col_at place) → length place ≡ n → ((i : ℕ) (p : Position) → slice_get place i ≡ Some p → IsCell p)
-    → ((x z : ℕ) → x < n → z < n → x ≢ z → a (pair_var n x z) ≡ false → row_at place x ≡ row_at place z) → slice_get place s ≡ Some from → s < n
+    → ((x z : ℕ) → x < n → z < n → x ≢ z → a (pair_var n x z) ≡ false → row_at place x ≡ row_at place z) → slice_get place s ≡ Some from
+    → s < n
     → length ts ≡ outcomes_of k → list_any is_some ts ≡ true → InRange ts n
     → CanJump place k ts from j → AllHold a (flow_clauses n s k ts) × AllHold a (trap_clauses n k ts)
 unfolding InRange
 test-sound a n place s from k c ts j is p len cells same_rows at s_in count some in_range can = (
-  subst (AllHold a) (sym (is.clauses n s ts)) (holds-test a n (row_at place) (col_at place) k s ts (first_real ts) (first_label ts) p has s_in in_range x_in fits.0),
-  hold-traps a n (row_at place) (col_at place) k s ts p has s_in x_in (slice_get_within ts (first_real ts) (Some (first_label ts)) there) few same_rows (fits.0.cols (first_real ts) (first_label ts) there) fits.1,
+  subst (AllHold a) (sym (is.clauses n s ts))
+      (holds-test a n (row_at place) (col_at place) k s ts (first_real ts) (first_label ts) p has s_in in_range x_in fits.0),
+  hold-traps a n (row_at place) (col_at place) k s ts p has s_in x_in (slice_get_within ts (first_real ts) (Some (first_label ts)) there)
+      few same_rows (fits.0.cols (first_real ts) (first_label ts) there) fits.1,
 )
   where
     there : slice_get ts (first_real ts) ≡ Some (Some (first_label ts))
@@ -116,7 +123,8 @@ test-sound a n place s from k c ts j is p len cells same_rows at s_in count some
     few : (length ts ≤ 6) ⊎ (keeps_half k ≡ false)
     few = subst (λ m. (m ≤ 6) ⊎ (keeps_half k ≡ false)) (sym count) is.few
 
-    fits : TestFits k (row_at place) (col_at place) s ts (first_label ts) × TrapsFree k n (row_at place) (col_at place) s ts (first_label ts)
+    fits : TestFits k (row_at place) (col_at place) s ts (first_label ts)
+        × TrapsFree k n (row_at place) (col_at place) s ts (first_label ts)
     fits = test-fits place n k c s ts (first_real ts) (first_label ts) from j is.kind len cells at there can
 
 -- a statement with one target
@@ -147,7 +155,8 @@ single-outcome kind.Enable h = refl
 single-outcome _ h = absurd h
 
 -- the clauses of a statement that has more than one target are those of a test
-pub flow-test : (n s : ℕ) (k : Kind) (ts : List (Option ℕ)) → k ≢ kind.Goto → k ≢ kind.Strobe → k ≢ kind.Enable → flow_clauses n s k ts ≡ test_clauses k s ts (first_real ts) (first_label ts)
+pub flow-test : (n s : ℕ) (k : Kind) (ts : List (Option ℕ)) → k ≢ kind.Goto → k ≢ kind.Strobe → k ≢ kind.Enable
+    → flow_clauses n s k ts ≡ test_clauses k s ts (first_real ts) (first_label ts)
 unfolding flow_clauses
 flow-test n s kind.Goto ts g t e = absurd (g refl)
 flow-test n s kind.Strobe ts g t e = absurd (t refl)

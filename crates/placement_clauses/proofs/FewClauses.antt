@@ -31,7 +31,8 @@ few-upto m (suc n) f h =
     omega arith
 
 -- elements with at most m clauses each
-few-each : {X A : Type 0} (xs : List X) (f : ℕ → X → List A) (m : ℕ) → ((i : ℕ) (x : X) → slice_get xs i ≡ Some x → length (f i x) ≤ m) → length (each_of xs f) ≤ length xs * m
+few-each : {X A : Type 0} (xs : List X) (f : ℕ → X → List A) (m : ℕ) → ((i : ℕ) (x : X) → slice_get xs i ≡ Some x → length (f i x) ≤ m)
+    → length (each_of xs f) ≤ length xs * m
 few-each {X} {A} xs f m h = few-upto m (length xs) (at_place xs f) (λ i. block i (slice_get xs i) refl)
   where
     block : (i : ℕ) (o : Option X) → slice_get xs i ≡ o → length (option_map_or (f i) o []) ≤ m
@@ -53,7 +54,8 @@ few-outcome k s e x o y = by (o == e)
     by false =
         let cols : length (col_clauses k s o y) ≤ 16 = few-cols k s o y in
         let rows : length (same 32 (row_var x 0) (row_var y 0)) ≡ 32 = length-same 32 (row_var x 0) (row_var y 0) in
-        let both : length (same 32 (row_var x 0) (row_var y 0) ++ col_clauses k s o y) ≡ length (same 32 (row_var x 0) (row_var y 0)) + length (col_clauses k s o y) = length-append (same 32 (row_var x 0) (row_var y 0)) (col_clauses k s o y) in
+        let both : length (same 32 (row_var x 0) (row_var y 0) ++ col_clauses k s o y) ≡ length (same 32 (row_var x 0) (row_var y 0))
+        + length (col_clauses k s o y) = length-append (same 32 (row_var x 0) (row_var y 0)) (col_clauses k s o y) in
         omega arith
 
 few-target : (k : Kind) (s e x o : ℕ) (target : Option ℕ) → length (target_clauses k s e x o target) ≤ 48
@@ -103,19 +105,24 @@ few-trap_outcome n k x e o None few =
 few-traps : (n : ℕ) (k : Kind) (ts : List (Option ℕ)) → n ≤ 512 → length ts ≤ 16 → length (trap_clauses n k ts) ≤ 16384
 unfolding trap_clauses
 few-traps n k ts labels few =
-    let all : length (each_of ts (trap_outcome n k (first_label ts) (first_real ts))) ≤ length ts * 1024 = few-each ts (trap_outcome n k (first_label ts) (first_real ts)) 1024 (λ o target at. few-trap_outcome n k (first_label ts) (first_real ts) o target labels) in
+    let all : length (each_of ts (trap_outcome n k (first_label ts) (first_real ts))) ≤ length ts * 1024 =
+    few-each ts (trap_outcome n k (first_label ts) (first_real ts)) 1024
+    (λ o target at. few-trap_outcome n k (first_label ts) (first_real ts) o target labels) in
     omega arith
 
 -- the targets of an instruction of a program are at most 16
 few-targets : (n : ℕ) (instr : Instr) → IsInstr n instr → length instr.targets ≤ 16
-few-targets n instr valid = let few : outcomes_of instr.kind ≤ 16 = few-outcomes instr.kind in omega (arith, valid.target_for_each_outcome)
+few-targets n instr valid = let few : outcomes_of instr.kind ≤ 16 = few-outcomes instr.kind in
+    omega (arith, valid.target_for_each_outcome)
 
 few-flow_class : (program : Program) → length (flow_class (graph_of program)) ≤ 409600
 few-flow_class program =
     let g = graph_of program in
     let n = length g.instrs in
     let labels : n ≤ 512 = program.valid.cells_for_all in
-    let all : length (flow_class g) ≤ n * 800 = few-each g.instrs (instr_clauses n) 800 (λ s instr at. few-flow n s instr.kind instr.targets (few-targets n instr (program.valid.each_instr s instr at))) in
+    let all : length (flow_class g) ≤ n * 800 =
+    few-each g.instrs (instr_clauses n) 800
+    (λ s instr at. few-flow n s instr.kind instr.targets (few-targets n instr (program.valid.each_instr s instr at))) in
     omega arith
 
 few-trap_class : (program : Program) → length (trap_class (graph_of program)) ≤ 8388608
@@ -123,7 +130,9 @@ few-trap_class program =
     let g = graph_of program in
     let n = length g.instrs in
     let labels : n ≤ 512 = program.valid.cells_for_all in
-    let all : length (trap_class g) ≤ n * 16384 = few-each g.instrs (instr_traps n) 16384 (λ s instr at. few-traps n instr.kind instr.targets labels (few-targets n instr (program.valid.each_instr s instr at))) in
+    let all : length (trap_class g) ≤ n * 16384 =
+    few-each g.instrs (instr_traps n) 16384
+    (λ s instr at. few-traps n instr.kind instr.targets labels (few-targets n instr (program.valid.each_instr s instr at))) in
     omega arith
 
 few-given_class : (program : Program) → length (given_class (graph_of program)) ≤ 17410
@@ -148,10 +157,13 @@ few_clauses program =
     let n = length g.instrs in
     let labels : n ≤ 512 = program.valid.cells_for_all in
     let pairs : pairs_below n ≤ 131072 = few-pairs n labels in
-    let whole : length (clauses_of g) ≡ 618 * n + 48 * pairs_below n + length (given_class g) + length (flow_class g) + length (trap_class g) = length-clauses g _ _ _ refl refl refl in
-    total n (pairs_below n) (length (given_class g)) (length (flow_class g)) (length (trap_class g)) (length (clauses_of g)) labels pairs (few-given_class program) (few-flow_class program) (few-trap_class program) whole
+    let whole : length (clauses_of g) ≡ 618 * n + 48 * pairs_below n + length (given_class g) + length (flow_class g) + length
+    (trap_class g) = length-clauses g _ _ _ refl refl refl in
+    total n (pairs_below n) (length (given_class g)) (length (flow_class g)) (length (trap_class g)) (length (clauses_of g)) labels pairs
+    (few-given_class program) (few-flow_class program) (few-trap_class program) whole
   where
-    total : (n p c3 c4 c5 all : ℕ) → n ≤ 512 → p ≤ 131072 → c3 ≤ 17410 → c4 ≤ 409600 → c5 ≤ 8388608 → all ≡ 618 * n + 48 * p + c3 + c4 + c5 → all ≤ 16000000
+    total : (n p c3 c4 c5 all : ℕ) → n ≤ 512 → p ≤ 131072 → c3 ≤ 17410 → c4 ≤ 409600 → c5 ≤ 8388608
+        → all ≡ 618 * n + 48 * p + c3 + c4 + c5 → all ≤ 16000000
     total n p c3 c4 c5 all a b c d e f = omega arith
 
 -- a program has fewer variables than 32 bits hold

@@ -8,10 +8,12 @@ use Rattle.placement_clauses.specs.FirstLabel.{first_label, first_real}
 pub first-there : (ts : List (Option ℕ)) → list_any is_some ts ≡ true → slice_get ts (first_real ts) ≡ Some (Some (first_label ts))
 first-there [] h = cc
 first-there (Some y ∷ ts) h = refl
-first-there (None ∷ ts) h = let e : first_real ts + 1 ≡ suc (first_real ts) = omega arith in ap (slice_get (None ∷ ts)) e ∙ first-there ts h
+first-there (None ∷ ts) h = let e : first_real ts + 1 ≡ suc (first_real ts) = omega arith in
+    ap (slice_get (None ∷ ts)) e ∙ first-there ts h
 
 -- an outcome with a label, before which there are only traps, is the first one
-pub first-is : (ts : List (Option ℕ)) (i y : ℕ) → ((k : ℕ) → k < i → slice_get ts k ≡ Some None) → slice_get ts i ≡ Some (Some y) → (first_real ts ≡ i) × (first_label ts ≡ y)
+pub first-is : (ts : List (Option ℕ)) (i y : ℕ) → ((k : ℕ) → k < i → slice_get ts k ≡ Some None) → slice_get ts i ≡ Some (Some y)
+    → (first_real ts ≡ i) × (first_label ts ≡ y)
 first-is [] i y h e = cc
 first-is (Some z ∷ ts) zero y h e = (refl, cc)
 first-is (Some z ∷ ts) (suc i) y h e = let none : Some (Some z) ≡ Some None = h 0 (omega arith) in cc

@@ -43,7 +43,8 @@ pub record GotoFronts (n s m : ℕ) : Type 0 where
 
 pub goto_fronts : (n s m : ℕ) → GotoFronts n s m
 goto_fronts n s m =
-    let c : length (goto_cols n s m) ≡ 16 = length-singles 16 (λ k. minus (way_var n s 0) ∷ minus (col_var s 0 + k) ∷ plus (col_var m 0 + k) ∷ []) in
+    let c : length (goto_cols n s m) ≡ 16 =
+    length-singles 16 (λ k. minus (way_var n s 0) ∷ minus (col_var s 0 + k) ∷ plus (col_var m 0 + k) ∷ []) in
     let l2 : length (before_zero n s m) ≡ 1 + length (goto_cols n s m) = length-append (goto_some n s) (goto_cols n s m) in
     let l3 : length (before_low n s m) ≡ length (before_zero n s m) + 1 = length-append (before_zero n s m) (goto_zero n s m) in
     let l4 : length (before_rows n s m) ≡ length (before_low n s m) + 1 = length-append (before_low n s m) (goto_low n s m) in

@@ -35,9 +35,11 @@ pub same_cell : (p q : Position) → p.row ≡ q.row → p.col ≡ q.col → p �
 same_cell p q e f = λ i. record { row = e i; col = f i }
 
 -- the test's jump
-pub can-test : (place : List Position) (n : ℕ) (k : Kind) (c : Code) (s : ℕ) (ts : List (Option ℕ)) (e x : ℕ) (from : Position) → IsKindOf k c → length place ≡ n → ((i : ℕ) (p : Position) → slice_get place i ≡ Some p → IsCell p)
+pub can-test : (place : List Position) (n : ℕ) (k : Kind) (c : Code) (s : ℕ) (ts : List (Option ℕ)) (e x : ℕ) (from : Position)
+    → IsKindOf k c → length place ≡ n → ((i : ℕ) (p : Position) → slice_get place i ≡ Some p → IsCell p)
     → slice_get place s ≡ Some from → slice_get ts e ≡ Some (Some x) → InRange ts n
-    → TestFits k (row_at place) (col_at place) s ts x → TrapsFree k n (row_at place) (col_at place) s ts x → (j : JumpWord) × CanJump place k ts from j
+    → TestFits k (row_at place) (col_at place) s ts x → TrapsFree k n (row_at place) (col_at place) s ts x
+    → (j : JumpWord) × CanJump place k ts from j
 unfolding InRange TrapsFree
 can-test place n k c s ts e x from is len cells at first in_range fits free = (
   record { code = c; operand = d.0 },
@@ -72,32 +74,42 @@ can-test place n k c s ts e x from is len cells at first in_range fits free = (
     col : (o : ℕ) → col_after c from.col d.0 o ≡ col_of k o (col_at place s)
     col o = is.cols from.col d.0 o ∙ ap (col_of k o) (sym from_col)
 
-    land : (o : ℕ) (t : Option ℕ) → slice_get ts o ≡ Some t → IsAt place t (record { row = row_after c from.row d.0; col = col_after c from.col d.0 o })
+    land : (o : ℕ) (t : Option ℕ) → slice_get ts o ≡ Some t
+        → IsAt place t (record { row = row_after c from.row d.0; col = col_after c from.col d.0 o })
     land o (Some y) there =
         let py = cell-at place n y len (in_range o y there) in
         let to : Position = record { row = row_after c from.row d.0; col = col_after c from.col d.0 o } in
-        py.1 ∙ ap Some (same_cell py.0 to (sym (row-of place y py.0 py.1) ∙ sym (fits.rows o y there) ∙ sym d.2) (sym (col-of place y py.0 py.1) ∙ fits.cols o y there ∙ sym (col o)))
-    land o None there = λ (i : ℕ) (here : slice_get place i ≡ Some (record { row = row_after c from.row d.0; col = col_after c from.col d.0 o })).
+        py.1 ∙ ap Some (same_cell py.0 to (sym (row-of place y py.0 py.1) ∙ sym (fits.rows o y there) ∙ sym d.2)
+        (sym (col-of place y py.0 py.1) ∙ fits.cols o y there ∙ sym (col o)))
+    land o None there = λ (i : ℕ) (here : slice_get place i ≡ Some (record {
+      row = row_after c from.row d.0;
+      col = col_after c from.col d.0 o;
+    })).
         let to : Position = record { row = row_after c from.row d.0; col = col_after c from.col d.0 o } in
         let i_row : row_at place i ≡ row_at place x = row-of place i to here ∙ d.2 in
         let i_col : col_at place i ≡ col_of k o (col_at place s) = col-of place i to here ∙ col o in
         elim (cases_eq i x) as (λ _. ⊥) [
           | inl is_x ↦
-              let twice : col_of k e (col_at place s) ≡ col_of k o (col_at place s) = sym (fits.cols e x first) ∙ ap (col_at place) (sym is_x) ∙ i_col in
+              let twice : col_of k e (col_at place s) ≡ col_of k o (col_at place s) = sym (fits.cols e x first)
+              ∙ ap (col_at place) (sym is_x) ∙ i_col in
               let one : e ≡ o = is.one_col (col_at place s) e o twice in
               let both : Some (Some x) ≡ Some None = sym first ∙ ap (slice_get ts) one ∙ there in
               let inner : Some x ≡ None = same_Some (Some x) None both in
               cc
-          | inr other ↦ let within : i < length place = slice_get_within place i to here in free o i there (omega arith) other (sym i_row) i_col
+          | inr other ↦ let within : i < length place = slice_get_within place i to here in
+              free o i there (omega arith) other (sym i_row) i_col
         ]
 
 -- what a jump of a test says
-pub test-fits : (place : List Position) (n : ℕ) (k : Kind) (c : Code) (s : ℕ) (ts : List (Option ℕ)) (e x : ℕ) (from : Position) (j : JumpWord) → IsKindOf k c → length place ≡ n → ((i : ℕ) (p : Position) → slice_get place i ≡ Some p → IsCell p)
-    → slice_get place s ≡ Some from → slice_get ts e ≡ Some (Some x) → CanJump place k ts from j → TestFits k (row_at place) (col_at place) s ts x × TrapsFree k n (row_at place) (col_at place) s ts x
+pub test-fits : (place : List Position) (n : ℕ) (k : Kind) (c : Code) (s : ℕ) (ts : List (Option ℕ)) (e x : ℕ) (from : Position)
+    (j : JumpWord) → IsKindOf k c → length place ≡ n → ((i : ℕ) (p : Position) → slice_get place i ≡ Some p → IsCell p)
+    → slice_get place s ≡ Some from → slice_get ts e ≡ Some (Some x) → CanJump place k ts from j
+    → TestFits k (row_at place) (col_at place) s ts x × TrapsFree k n (row_at place) (col_at place) s ts x
 unfolding TrapsFree
 test-fits place n k c s ts e x from j is len cells at first can = (
   record {
-    reach = ap (λ r. reaches k r (row_at place x)) from_row ∙ ap (reaches k from.row) (row e x first) ∙ is.reached from.row j.operand (cells s from at).row d_in;
+    reach = ap (λ r. reaches k r (row_at place x)) from_row ∙ ap (reaches k from.row) (row e x first)
+        ∙ is.reached from.row j.operand (cells s from at).row d_in;
     rows = λ o y there. row e x first ∙ sym (row o y there);
     cols = λ o y there. col-of place y (lands from j o) (can.landings o (Some y) there) ∙ col o;
   },

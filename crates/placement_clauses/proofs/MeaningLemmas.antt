@@ -32,7 +32,8 @@ length-one_hot n v = length-singles n (λ k. v == k)
 
 -- a label has 48 values
 length-cell_truths : (place : List Position) (i : ℕ) → length (cell_truths place i) ≡ 48
-length-cell_truths place i = length-append (one_hot 32 (row_at place i)) (one_hot 16 (col_at place i)) ∙ total _ _ (length-one_hot 32 (row_at place i)) (length-one_hot 16 (col_at place i))
+length-cell_truths place i = length-append (one_hot 32 (row_at place i)) (one_hot 16 (col_at place i))
+    ∙ total _ _ (length-one_hot 32 (row_at place i)) (length-one_hot 16 (col_at place i))
   where
     total : (p q : ℕ) → p ≡ 32 → q ≡ 16 → p + q ≡ 48
     total p q a b = omega arith
@@ -50,14 +51,22 @@ pub meaning-meant : (g : Graph) (place : List Position) → IsMeant (truth_in (m
 unfolding meaning
 meaning-meant g place = record {
   rows = λ i k i_in k_in. value-at whole (i * 48 + k) (row_var i 0 + k) (row_at place i == k) (omega arith)
-      (first (i * 48 + k) (in_block i k i_in (omega arith)) ∙ slice_get-blocks 48 n (cell_truths place) i k (λ i lt. length-cell_truths place i) i_in (omega arith)
-      ∙ slice_get-append_left (one_hot 32 (row_at place i)) (one_hot 16 (col_at place i)) k (shorter _ 32 k (length-one_hot 32 (row_at place i)) k_in) ∙ slice_get-singles 32 (λ k. row_at place i == k) k k_in);
+      (first (i * 48 + k) (in_block i k i_in (omega arith))
+      ∙ slice_get-blocks 48 n (cell_truths place) i k (λ i lt. length-cell_truths place i) i_in (omega arith)
+      ∙ slice_get-append_left (one_hot 32 (row_at place i)) (one_hot 16 (col_at place i)) k
+      (shorter _ 32 k (length-one_hot 32 (row_at place i)) k_in) ∙ slice_get-singles 32 (λ k. row_at place i == k) k k_in);
   cols = λ i k i_in k_in. value-at whole (i * 48 + (32 + k)) (col_var i 0 + k) (col_at place i == k) (omega arith)
-      (first (i * 48 + (32 + k)) (in_block i (32 + k) i_in (omega arith)) ∙ slice_get-blocks 48 n (cell_truths place) i (32 + k) (λ i lt. length-cell_truths place i) i_in (omega arith)
-      ∙ ap (λ m. slice_get (cell_truths place i) (m + k)) (sym (length-one_hot 32 (row_at place i))) ∙ slice_get-append_right (one_hot 32 (row_at place i)) (one_hot 16 (col_at place i)) k ∙ slice_get-singles 16 (λ k. col_at place i == k) k k_in);
-  diffs = λ i j lt j_in. value-at whole (n * 48 + (pairs_below j + i)) (differ_var n i j) (not (row_at place i == row_at place j)) (omega arith)
+      (first (i * 48 + (32 + k)) (in_block i (32 + k) i_in (omega arith))
+      ∙ slice_get-blocks 48 n (cell_truths place) i (32 + k) (λ i lt. length-cell_truths place i) i_in (omega arith)
+      ∙ ap (λ m. slice_get (cell_truths place i) (m + k)) (sym (length-one_hot 32 (row_at place i)))
+      ∙ slice_get-append_right (one_hot 32 (row_at place i)) (one_hot 16 (col_at place i)) k
+      ∙ slice_get-singles 16 (λ k. col_at place i == k) k k_in);
+  diffs = λ i j lt j_in. value-at whole (n * 48 + (pairs_below j + i)) (differ_var n i j) (not (row_at place i == row_at place j))
+      (omega arith)
       (second (pairs_below j + i) (in_triangle i j lt j_in)
-      ∙ ap (λ m. slice_get differs (m + i)) (sym (length-differs j)) ∙ slice_get-upto n (differ_truths place) j i j_in (longer _ j i (length-singles j (λ i. not (row_at place i == row_at place j))) lt)
+      ∙ ap (λ m. slice_get differs (m + i)) (sym (length-differs j))
+      ∙ slice_get-upto n (differ_truths place) j i j_in
+      (longer _ j i (length-singles j (λ i. not (row_at place i == row_at place j))) lt)
       ∙ slice_get-singles j (λ i. not (row_at place i == row_at place j)) i lt);
   same_col = λ s x e is. goto s 0 x _ e is (omega arith) refl;
   low = λ s x e is. goto s 1 x _ e is (omega arith) refl;
@@ -77,7 +86,8 @@ meaning-meant g place = record {
     flows = each_of g.instrs (instr_truths place)
 
     whole : List Bool
-    whole = upto (length g.instrs) (cell_truths place) ++ upto (length g.instrs) (differ_truths place) ++ each_of g.instrs (instr_truths place)
+    whole = upto (length g.instrs) (cell_truths place) ++ upto (length g.instrs) (differ_truths place) ++ each_of g.instrs
+        (instr_truths place)
 
     length-cells : length (upto (length g.instrs) (cell_truths place)) ≡ length g.instrs * 48
     length-cells = length-upto 48 (length g.instrs) (cell_truths place) (λ i lt. length-cell_truths place i)
@@ -98,33 +108,59 @@ meaning-meant g place = record {
     in_block i k p q = omega arith
 
     in_triangle : (i j : ℕ) → i < j → j < length g.instrs → pairs_below j + i < pairs_below (length g.instrs)
-    in_triangle i j lt j_in = least _ _ _ _ i j (length-upto-le (length g.instrs) (differ_truths place) j j_in) (length-differs j) (length-singles j (λ i. not (row_at place i == row_at place j))) (length-differs (length g.instrs)) lt
+    in_triangle i j lt j_in =
+        least _ _ _ _ i j (length-upto-le (length g.instrs) (differ_truths place) j j_in) (length-differs j)
+        (length-singles j (λ i. not (row_at place i == row_at place j))) (length-differs (length g.instrs)) lt
       where
-        least : (l m p q i j : ℕ) → l + m ≤ p → l ≡ q → m ≡ j → p ≡ pairs_below (length g.instrs) → i < j → q + i < pairs_below (length g.instrs)
+        least : (l m p q i j : ℕ) → l + m ≤ p → l ≡ q → m ≡ j → p ≡ pairs_below (length g.instrs) → i < j
+            → q + i < pairs_below (length g.instrs)
         least l m p q i j a b c d e = omega arith
 
-    length-front : length (upto (length g.instrs) (cell_truths place) ++ upto (length g.instrs) (differ_truths place)) ≡ length g.instrs * 48 + pairs_below (length g.instrs)
-    length-front = length-append (upto (length g.instrs) (cell_truths place)) (upto (length g.instrs) (differ_truths place)) ∙ both _ _ _ _ length-cells (length-differs (length g.instrs))
+    length-front : length
+        (upto (length g.instrs) (cell_truths place) ++ upto (length g.instrs) (differ_truths place)) ≡ length g.instrs * 48 + pairs_below
+        (length g.instrs)
+    length-front = length-append (upto (length g.instrs) (cell_truths place)) (upto (length g.instrs) (differ_truths place))
+        ∙ both _ _ _ _ length-cells (length-differs (length g.instrs))
       where
         both : (l m p q : ℕ) → l ≡ p → m ≡ q → l + m ≡ p + q
         both l m p q a b = omega arith
 
-    first : (p : ℕ) → p < length g.instrs * 48 → slice_get (upto (length g.instrs) (cell_truths place) ++ upto (length g.instrs) (differ_truths place) ++ each_of g.instrs (instr_truths place)) p ≡ slice_get (upto (length g.instrs) (cell_truths place)) p
-    first p lt = slice_get-append_left (upto (length g.instrs) (cell_truths place) ++ upto (length g.instrs) (differ_truths place)) (each_of g.instrs (instr_truths place)) p (omega (arith, length-front)) ∙ slice_get-append_left (upto (length g.instrs) (cell_truths place)) (upto (length g.instrs) (differ_truths place)) p (omega (arith, length-cells))
+    first : (p : ℕ) → p < length g.instrs * 48
+        → slice_get (upto (length g.instrs) (cell_truths place) ++ upto (length g.instrs) (differ_truths place) ++ each_of g.instrs
+        (instr_truths place)) p ≡ slice_get (upto (length g.instrs) (cell_truths place)) p
+    first p lt = slice_get-append_left (upto (length g.instrs) (cell_truths place) ++ upto (length g.instrs) (differ_truths place))
+        (each_of g.instrs (instr_truths place)) p (omega (arith, length-front))
+        ∙ slice_get-append_left (upto (length g.instrs) (cell_truths place)) (upto (length g.instrs) (differ_truths place)) p
+        (omega (arith, length-cells))
 
-    second : (p : ℕ) → p < pairs_below (length g.instrs) → slice_get (upto (length g.instrs) (cell_truths place) ++ upto (length g.instrs) (differ_truths place) ++ each_of g.instrs (instr_truths place)) (length g.instrs * 48 + p) ≡ slice_get (upto (length g.instrs) (differ_truths place)) p
-    second p lt = slice_get-append_left (upto (length g.instrs) (cell_truths place) ++ upto (length g.instrs) (differ_truths place)) (each_of g.instrs (instr_truths place)) (length g.instrs * 48 + p) (omega (arith, length-front)) ∙ ap (λ m. slice_get (upto (length g.instrs) (cell_truths place) ++ upto (length g.instrs) (differ_truths place)) (m + p)) (sym length-cells) ∙ slice_get-append_right (upto (length g.instrs) (cell_truths place)) (upto (length g.instrs) (differ_truths place)) p
+    second : (p : ℕ) → p < pairs_below (length g.instrs)
+        → slice_get (upto (length g.instrs) (cell_truths place) ++ upto (length g.instrs) (differ_truths place) ++ each_of g.instrs
+        (instr_truths place)) (length g.instrs * 48 + p) ≡ slice_get (upto (length g.instrs) (differ_truths place)) p
+    second p lt = slice_get-append_left (upto (length g.instrs) (cell_truths place) ++ upto (length g.instrs) (differ_truths place))
+        (each_of g.instrs (instr_truths place)) (length g.instrs * 48 + p) (omega (arith, length-front))
+        ∙ ap (λ m. slice_get (upto (length g.instrs) (cell_truths place) ++ upto (length g.instrs) (differ_truths place)) (m + p))
+        (sym length-cells) ∙ slice_get-append_right (upto (length g.instrs) (cell_truths place))
+        (upto (length g.instrs) (differ_truths place)) p
 
-    goto : (s t : ℕ) (x : Instr) (b : Bool) → slice_get g.instrs s ≡ Some x → x.kind ≡ kind.Goto → t < 3 → slice_get (goto_truths place s (first_label x.targets)) t ≡ Some b → truth_in (upto (length g.instrs) (cell_truths place) ++ upto (length g.instrs) (differ_truths place) ++ each_of g.instrs (instr_truths place)) (way_var (length g.instrs) s t) ≡ b
+    goto : (s t : ℕ) (x : Instr) (b : Bool) → slice_get g.instrs s ≡ Some x → x.kind ≡ kind.Goto → t < 3
+        → slice_get (goto_truths place s (first_label x.targets)) t ≡ Some b
+        → truth_in (upto (length g.instrs) (cell_truths place) ++ upto (length g.instrs) (differ_truths place) ++ each_of g.instrs
+        (instr_truths place)) (way_var (length g.instrs) s t) ≡ b
     goto s t x b e is t_in there =
-        value-at whole (length (upto (length g.instrs) (cell_truths place) ++ upto (length g.instrs) (differ_truths place)) + (s * 3 + t)) (way_var (length g.instrs) s t) b (omega (arith, length-front))
-        (slice_get-append_right (upto (length g.instrs) (cell_truths place) ++ upto (length g.instrs) (differ_truths place)) (each_of g.instrs (instr_truths place)) (s * 3 + t)
-        ∙ slice_get-blocks 3 (length g.instrs) (λ i. option_map_or (instr_truths place i) (slice_get g.instrs i) []) s t block (slice_get_within g.instrs s x e) t_in
-        ∙ ap (λ o. slice_get (option_map_or (instr_truths place s) o []) t) e ∙ ap (λ (k : Kind). slice_get (flow_truths place s k x.targets) t) is ∙ there)
+        value-at whole (length (upto (length g.instrs) (cell_truths place) ++ upto (length g.instrs) (differ_truths place)) + (s * 3 + t))
+        (way_var (length g.instrs) s t) b (omega (arith, length-front))
+        (slice_get-append_right (upto (length g.instrs) (cell_truths place) ++ upto (length g.instrs) (differ_truths place))
+        (each_of g.instrs (instr_truths place)) (s * 3 + t)
+        ∙ slice_get-blocks 3 (length g.instrs) (λ i. option_map_or (instr_truths place i) (slice_get g.instrs i) []) s t block
+        (slice_get_within g.instrs s x e) t_in
+        ∙ ap (λ o. slice_get (option_map_or (instr_truths place s) o []) t) e
+        ∙ ap (λ (k : Kind). slice_get (flow_truths place s k x.targets) t) is ∙ there)
       where
         block : (i : ℕ) → i < length g.instrs → length (option_map_or (instr_truths place i) (slice_get g.instrs i) []) ≡ 3
-        block i lt = ap (λ o. length (option_map_or (instr_truths place i) o [])) (slice_get-get_or g.instrs i x lt) ∙ length-flow_truths place i (get_or g.instrs i x)
+        block i lt = ap (λ o. length (option_map_or (instr_truths place i) o [])) (slice_get-get_or g.instrs i x lt)
+            ∙ length-flow_truths place i (get_or g.instrs i x)
 
 -- soundness: the values of a legal placement make every clause true
-pub meaning-sound : (g : Graph) (place : List Position) → IsValid g → IsLegal g place → AllHold (truth_in (meaning g place)) (clauses_of g)
+pub meaning-sound : (g : Graph) (place : List Position) → IsValid g → IsLegal g place
+    → AllHold (truth_in (meaning g place)) (clauses_of g)
 meaning-sound g place valid legal = legal-sound (truth_in (meaning g place)) g place valid legal (meaning-meant g place)

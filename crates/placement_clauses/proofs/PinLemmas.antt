@@ -15,12 +15,15 @@ abbrev label_of : Pin → ℕ
 label_of pin = pin.label
 
 -- a label that no pin has differs from the labels of all pins
-others-differ : (label : ℕ) (pins : List Pin) → ((k : ℕ) (q : Pin) → slice_get pins k ≡ Some q → label ≢ q.label) → AllByRecursion (λ y. eqb label y ≡ false) (map label_of pins)
+others-differ : (label : ℕ) (pins : List Pin) → ((k : ℕ) (q : Pin) → slice_get pins k ≡ Some q → label ≢ q.label)
+    → AllByRecursion (λ y. eqb label y ≡ false) (map label_of pins)
 others-differ label [] h = tt
 others-differ label (q ∷ pins) h = (ne_eqb label q.label (h 0 q refl), others-differ label pins (λ k r at. h (suc k) r at))
 
 -- labels that are pinned once are distinct
-labels-distinct : (pins : List Pin) → ((k l : ℕ) (p q : Pin) → slice_get pins k ≡ Some p → slice_get pins l ≡ Some q → p.label ≡ q.label → k ≡ l) → IsDistinct eqb (map label_of pins)
+labels-distinct : (pins : List Pin)
+    → ((k l : ℕ) (p q : Pin) → slice_get pins k ≡ Some p → slice_get pins l ≡ Some q → p.label ≡ q.label → k ≡ l)
+    → IsDistinct eqb (map label_of pins)
 unfolding IsDistinct
 labels-distinct [] once = tt
 labels-distinct (p ∷ pins) once = (
@@ -29,7 +32,8 @@ labels-distinct (p ∷ pins) once = (
 )
 
 -- a label among those of the pins is in range
-label-in_range : (pins : List Pin) (n : ℕ) → ((k : ℕ) (p : Pin) → slice_get pins k ≡ Some p → p.label < n) → (label : ℕ) → list_any (eqb label) (map label_of pins) ≡ true → label < n
+label-in_range : (pins : List Pin) (n : ℕ) → ((k : ℕ) (p : Pin) → slice_get pins k ≡ Some p → p.label < n) → (label : ℕ)
+    → list_any (eqb label) (map label_of pins) ≡ true → label < n
 label-in_range [] n h label e = cc
 label-in_range (p ∷ pins) n h label e =
     elim (or_cases (eqb label p.label) (list_any (eqb label) (map label_of pins)) e) as (λ _. label < n) [
@@ -41,7 +45,8 @@ label-in_range (p ∷ pins) n h label e =
 few-pins : (g : Graph) → IsValid g → length g.pins ≤ length g.instrs
 few-pins g valid =
     let long : length (map label_of g.pins) ≤ length g.instrs =
-    length-le_from_distinct_below (map label_of g.pins) (length g.instrs) (labels-distinct g.pins valid.pinned_once) (label-in_range g.pins (length g.instrs) valid.pins_in_range) in
+    length-le_from_distinct_below (map label_of g.pins) (length g.instrs) (labels-distinct g.pins valid.pinned_once)
+    (label-in_range g.pins (length g.instrs) valid.pins_in_range) in
     subst (λ l. l ≤ length g.instrs) (length-map g.pins label_of) long
 
 -- a program has at most 512 pins

@@ -75,11 +75,13 @@ pub hold-two : (a : ℕ → Bool) (p q : ℤ) → (lit_holds a p ≡ false → l
 hold-two a p q h = holds-one a (p ∷ q ∷ []) (of_two (lit_holds a p) (lit_holds a q) h)
 
 -- a clause of three literals: the third is true where the first two are false
-pub three-hold : (a : ℕ → Bool) (p q r : ℤ) → AllHold a (one (p ∷ q ∷ r ∷ [])) → lit_holds a p ≡ false → lit_holds a q ≡ false → lit_holds a r ≡ true
+pub three-hold : (a : ℕ → Bool) (p q r : ℤ) → AllHold a (one (p ∷ q ∷ r ∷ [])) → lit_holds a p ≡ false → lit_holds a q ≡ false
+    → lit_holds a r ≡ true
 three-hold a p q r h = three_of (lit_holds a p) (lit_holds a q) (lit_holds a r) (one-holds a (p ∷ q ∷ r ∷ []) h)
 
 -- and the other way round
-pub hold-three : (a : ℕ → Bool) (p q r : ℤ) → (lit_holds a p ≡ false → lit_holds a q ≡ false → lit_holds a r ≡ true) → AllHold a (one (p ∷ q ∷ r ∷ []))
+pub hold-three : (a : ℕ → Bool) (p q r : ℤ) → (lit_holds a p ≡ false → lit_holds a q ≡ false → lit_holds a r ≡ true)
+    → AllHold a (one (p ∷ q ∷ r ∷ []))
 hold-three a p q r h = holds-one a (p ∷ q ∷ r ∷ []) (of_three (lit_holds a p) (lit_holds a q) (lit_holds a r) h)
 
 -- a negated literal is false, so its variable is true
@@ -103,46 +105,55 @@ pub holds-any_of : (a : ℕ → Bool) (n v k : ℕ) → k < n → a (v + k) ≡ 
 holds-any_of a n v k lt e = holds-one a (any_of n v) (any-upto (lit_holds a) n (plus_at v) k lt (ap (λ x. x || false) e))
 
 -- at most one
-pub no_two-holds : (a : ℕ → Bool) (n v : ℕ) → 0 < v → AllHold a (no_two n v) → (r s : ℕ) → r < s → s < n → a (v + r) ≡ true → a (v + s) ≡ true → ⊥
+pub no_two-holds : (a : ℕ → Bool) (n v : ℕ) → 0 < v → AllHold a (no_two n v) → (r s : ℕ) → r < s → s < n → a (v + r) ≡ true
+    → a (v + s) ≡ true → ⊥
 no_two-holds a n v above h r s lt within e f =
     let row : AllHold a (not_with_later n v r) = upto-All (λ c. clause_holds a c ≡ true) n (not_with_later n v) h r (omega arith) in
     let same : r + 1 + (s - (r + 1)) ≡ s = omega arith in
-    let at : AllHold a (not_both v r (r + 1 + (s - (r + 1)))) = upto-All (λ c. clause_holds a c ≡ true) (n - (r + 1)) (λ k. not_both v r (r + 1 + k)) row (s - (r + 1)) (omega arith) in
+    let at : AllHold a (not_both v r (r + 1 + (s - (r + 1)))) =
+    upto-All (λ c. clause_holds a c ≡ true) (n - (r + 1)) (λ k. not_both v r (r + 1 + k)) row (s - (r + 1)) (omega arith) in
     let here : AllHold a (not_both v r s) = subst (λ m. AllHold a (not_both v r m)) same at in
     from_minus a (v + s) (omega arith) (two-hold a (minus (v + r)) (minus (v + s)) here (minus-false a (v + r) (omega arith) e)) f
 
 -- and the other way round
-pub holds-no_two : (a : ℕ → Bool) (n v : ℕ) → 0 < v → ((r s : ℕ) → r < s → s < n → a (v + r) ≡ true → a (v + s) ≡ true → ⊥) → AllHold a (no_two n v)
+pub holds-no_two : (a : ℕ → Bool) (n v : ℕ) → 0 < v → ((r s : ℕ) → r < s → s < n → a (v + r) ≡ true → a (v + s) ≡ true → ⊥)
+    → AllHold a (no_two n v)
 holds-no_two a n v above h =
     All-upto (λ c. clause_holds a c ≡ true) n (not_with_later n v) (λ r r_lt.
     All-upto (λ c. clause_holds a c ≡ true) (n - (r + 1)) (λ k. not_both v r (r + 1 + k)) (λ k k_lt.
     hold-two a (minus (v + r)) (minus (v + (r + 1 + k))) (λ (e : lit_holds a (minus (v + r)) ≡ false).
-    to_minus a (v + (r + 1 + k)) (omega arith) (λ (f : a (v + (r + 1 + k)) ≡ true). h r (r + 1 + k) (omega arith) (omega arith) (from_not a (v + r) (omega arith) e) f))))
+    to_minus a (v + (r + 1 + k)) (omega arith)
+    (λ (f : a (v + (r + 1 + k)) ≡ true). h r (r + 1 + k) (omega arith) (omega arith) (from_not a (v + r) (omega arith) e) f))))
 
 -- twins are not both true where the literal is false
-pub apart-holds : (a : ℕ → Bool) (z : ℤ) (n v w : ℕ) → 0 < v → 0 < w → AllHold a (apart_unless z n v w) → lit_holds a z ≡ false → (k : ℕ) → k < n → a (v + k) ≡ true → a (w + k) ≡ true → ⊥
+pub apart-holds : (a : ℕ → Bool) (z : ℤ) (n v w : ℕ) → 0 < v → 0 < w → AllHold a (apart_unless z n v w) → lit_holds a z ≡ false → (k : ℕ)
+    → k < n → a (v + k) ≡ true → a (w + k) ≡ true → ⊥
 apart-holds a z n v w above above_w h e k lt f g =
     let here : AllHold a (not_both_unless z v w k) = upto-All (λ c. clause_holds a c ≡ true) n (not_both_unless z v w) h k lt in
     from_minus a (w + k) (omega arith) (three-hold a z (minus (v + k)) (minus (w + k)) here e (minus-false a (v + k) (omega arith) f)) g
 
 -- and the other way round
-pub holds-apart : (a : ℕ → Bool) (z : ℤ) (n v w : ℕ) → 0 < v → 0 < w → (lit_holds a z ≡ false → (k : ℕ) → k < n → a (v + k) ≡ true → a (w + k) ≡ true → ⊥) → AllHold a (apart_unless z n v w)
+pub holds-apart : (a : ℕ → Bool) (z : ℤ) (n v w : ℕ) → 0 < v → 0 < w
+    → (lit_holds a z ≡ false → (k : ℕ) → k < n → a (v + k) ≡ true → a (w + k) ≡ true → ⊥) → AllHold a (apart_unless z n v w)
 holds-apart a z n v w above above_w h =
     All-upto (λ c. clause_holds a c ≡ true) n (not_both_unless z v w) (λ k lt.
     hold-three a z (minus (v + k)) (minus (w + k)) (λ (e : lit_holds a z ≡ false) (f : lit_holds a (minus (v + k)) ≡ false).
     to_minus a (w + k) (omega arith) (λ (g : a (w + k) ≡ true). h e k lt (from_not a (v + k) (omega arith) f) g)))
 
 -- a twin is true where the condition and its variable are
-pub same_where-holds : (a : ℕ → Bool) (g n v w : ℕ) → 0 < g → 0 < v → AllHold a (same_where g n v w) → a g ≡ true → (k : ℕ) → k < n → a (v + k) ≡ true → a (w + k) ≡ true
+pub same_where-holds : (a : ℕ → Bool) (g n v w : ℕ) → 0 < g → 0 < v → AllHold a (same_where g n v w) → a g ≡ true → (k : ℕ) → k < n
+    → a (v + k) ≡ true → a (w + k) ≡ true
 same_where-holds a g n v w above above_v h e k lt f =
     let here : AllHold a (follows_where g v w k) = upto-All (λ c. clause_holds a c ≡ true) n (follows_where g v w) h k lt in
     three-hold a (minus g) (minus (v + k)) (plus (w + k)) here (minus-false a g above e) (minus-false a (v + k) (omega arith) f)
 
 -- and the other way round
-pub holds-same_where : (a : ℕ → Bool) (g n v w : ℕ) → 0 < g → 0 < v → (a g ≡ true → (k : ℕ) → k < n → a (v + k) ≡ true → a (w + k) ≡ true) → AllHold a (same_where g n v w)
+pub holds-same_where : (a : ℕ → Bool) (g n v w : ℕ) → 0 < g → 0 < v → (a g ≡ true → (k : ℕ) → k < n → a (v + k) ≡ true → a (w + k) ≡ true)
+    → AllHold a (same_where g n v w)
 holds-same_where a g n v w above above_v h =
     All-upto (λ c. clause_holds a c ≡ true) n (follows_where g v w) (λ k lt.
-    hold-three a (minus g) (minus (v + k)) (plus (w + k)) (λ (e : lit_holds a (minus g) ≡ false) (f : lit_holds a (minus (v + k)) ≡ false).
+    hold-three a (minus g) (minus (v + k)) (plus (w + k))
+    (λ (e : lit_holds a (minus g) ≡ false) (f : lit_holds a (minus (v + k)) ≡ false).
     h (from_not a g above e) k lt (from_not a (v + k) (omega arith) f)))
 
 -- a twin is true where its variable is
@@ -181,8 +192,12 @@ hot-from a n v above some most =
         above = above;
         tells = λ k lt. (elim (cases_order r.0 k) as (λ _. a (v + k) ≡ (r.0 == k)) [
           | inl e ↦ ap (λ m. a (v + m)) (sym e) ∙ r.2 ∙ sym (eq-eqb r.0 k e)
-          | inr (inl below) ↦ false_from_ne_true (a (v + k)) (λ (t : a (v + k) ≡ true). no_two-holds a n v above most r.0 k below lt r.2 t) ∙ sym (ne_eqb r.0 k (λ (e : r.0 ≡ k). absurd (omega arith)))
-          | inr (inr after) ↦ false_from_ne_true (a (v + k)) (λ (t : a (v + k) ≡ true). no_two-holds a n v above most k r.0 after r.1 t r.2) ∙ sym (ne_eqb r.0 k (λ (e : r.0 ≡ k). absurd (omega arith)))
+          | inr (inl below) ↦ false_from_ne_true (a (v + k))
+              (λ (t : a (v + k) ≡ true). no_two-holds a n v above most r.0 k below lt r.2 t)
+              ∙ sym (ne_eqb r.0 k (λ (e : r.0 ≡ k). absurd (omega arith)))
+          | inr (inr after) ↦ false_from_ne_true (a (v + k))
+              (λ (t : a (v + k) ≡ true). no_two-holds a n v above most k r.0 after r.1 t r.2)
+              ∙ sym (ne_eqb r.0 k (λ (e : r.0 ≡ k). absurd (omega arith)))
         ]);
       },
     )

@@ -63,25 +63,31 @@ length-upto-le zero f k lt = absurd (omega arith)
 length-upto-le (suc n) f k lt =
     let whole : length (upto (suc n) f) ≡ length (upto n f) + length (f n) = ap length (upto-suc n f) ∙ length-append (upto n f) (f n) in
     elim (cases_order k n) as (λ _. length (upto k f) + length (f k) ≤ length (upto (suc n) f)) [
-      | inl same ↦ let e : length (upto k f) + length (f k) ≡ length (upto n f) + length (f n) = ap (λ m. length (upto m f) + length (f m)) same in omega arith
+      | inl same ↦ let e : length (upto k f) + length (f k) ≡ length (upto n f) + length (f n) =
+          ap (λ m. length (upto m f) + length (f m)) same in omega arith
       | inr (inl below) ↦ let earlier : length (upto k f) + length (f k) ≤ length (upto n f) = length-upto-le n f k below in omega arith
       | inr (inr above) ↦ absurd (omega arith)
     ]
 
 -- the j-th element of the k-th block
-pub slice_get-upto : {A : Type 0} (n : ℕ) (f : ℕ → List A) (k j : ℕ) → k < n → j < length (f k) → slice_get (upto n f) (length (upto k f) + j) ≡ slice_get (f k) j
+pub slice_get-upto : {A : Type 0} (n : ℕ) (f : ℕ → List A) (k j : ℕ) → k < n → j < length (f k)
+    → slice_get (upto n f) (length (upto k f) + j) ≡ slice_get (f k) j
 slice_get-upto zero f k j lt in_block = absurd (omega arith)
 slice_get-upto (suc n) f k j lt in_block =
     elim (cases_order k n) as (λ _. slice_get (upto (suc n) f) (length (upto k f) + j) ≡ slice_get (f k) j) [
-      | inl same ↦ ap (λ l. slice_get l (length (upto k f) + j)) (upto-suc n f) ∙ ap (λ m. slice_get (upto n f ++ f n) (length (upto m f) + j)) same ∙ slice_get-append_right (upto n f) (f n) j ∙ ap (λ m. slice_get (f m) j) (sym same)
+      | inl same ↦ ap (λ l. slice_get l (length (upto k f) + j)) (upto-suc n f)
+          ∙ ap (λ m. slice_get (upto n f ++ f n) (length (upto m f) + j)) same ∙ slice_get-append_right (upto n f) (f n) j
+          ∙ ap (λ m. slice_get (f m) j) (sym same)
       | inr (inl below) ↦
           let within : length (upto k f) + length (f k) ≤ length (upto n f) = length-upto-le n f k below in
-          ap (λ l. slice_get l (length (upto k f) + j)) (upto-suc n f) ∙ slice_get-append_left (upto n f) (f n) (length (upto k f) + j) (omega arith) ∙ slice_get-upto n f k j below in_block
+          ap (λ l. slice_get l (length (upto k f) + j)) (upto-suc n f)
+          ∙ slice_get-append_left (upto n f) (f n) (length (upto k f) + j) (omega arith) ∙ slice_get-upto n f k j below in_block
       | inr (inr above) ↦ absurd (omega arith)
     ]
 
 -- the j-th element of the k-th block, where the first k blocks and those before are of length m
-pub slice_get-blocks : {A : Type 0} (m n : ℕ) (f : ℕ → List A) (k j : ℕ) → ((i : ℕ) → i < n → length (f i) ≡ m) → k < n → j < m → slice_get (upto n f) (k * m + j) ≡ slice_get (f k) j
+pub slice_get-blocks : {A : Type 0} (m n : ℕ) (f : ℕ → List A) (k j : ℕ) → ((i : ℕ) → i < n → length (f i) ≡ m) → k < n → j < m
+    → slice_get (upto n f) (k * m + j) ≡ slice_get (f k) j
 slice_get-blocks m n f k j h lt in_block =
     let front : length (upto k f) ≡ k * m = length-upto m k f (λ i below. h i (omega arith)) in
     let here : length (f k) ≡ m = h k lt in
@@ -90,7 +96,8 @@ slice_get-blocks m n f k j h lt in_block =
 -- a fact of each element is a fact of each block's elements
 pub All-upto : {A : Type 0} (P : A → Type 0) (n : ℕ) (f : ℕ → List A) → ((k : ℕ) → k < n → All P (f k)) → All P (upto n f)
 All-upto P zero f h = subst (All P) (sym (upto-none f)) (All-nil P)
-All-upto P (suc n) f h = subst (All P) (sym (upto-suc n f)) (All-append P (upto n f) (f n) (All-upto P n f (λ k lt. h k (omega arith))) (h n (omega arith)))
+All-upto P (suc n) f h =
+    subst (All P) (sym (upto-suc n f)) (All-append P (upto n f) (f n) (All-upto P n f (λ k lt. h k (omega arith))) (h n (omega arith)))
 
 -- a fact of all elements holds in the first of two lists
 pub All-append_left : {A : Type 0} (P : A → Type 0) (xs ys : List A) → All P (xs ++ ys) → All P xs
@@ -112,20 +119,25 @@ upto-All P (suc n) f h k lt =
     ]
 
 -- one of so many elements passes
-pub any-upto : {A : Type 0} (p : A → Bool) (n : ℕ) (f : ℕ → List A) (k : ℕ) → k < n → list_any p (f k) ≡ true → list_any p (upto n f) ≡ true
+pub any-upto : {A : Type 0} (p : A → Bool) (n : ℕ) (f : ℕ → List A) (k : ℕ) → k < n → list_any p (f k) ≡ true
+    → list_any p (upto n f) ≡ true
 any-upto p zero f k lt h = absurd (omega arith)
 any-upto p (suc n) f k lt h =
-    ap (list_any p) (upto-suc n f) ∙ list_any-append p (upto n f) (f n) ∙ (elim (cases_order k n) as (λ _. (list_any p (upto n f) || list_any p (f n)) ≡ true) [
+    ap (list_any p) (upto-suc n f) ∙ list_any-append p (upto n f) (f n)
+    ∙ (elim (cases_order k n) as (λ _. (list_any p (upto n f) || list_any p (f n)) ≡ true) [
       | inl same ↦ or_right (list_any p (upto n f)) _ (ap (λ m. list_any p (f m)) (sym same) ∙ h)
       | inr (inl below) ↦ or_left _ (list_any p (f n)) (any-upto p n f k below h)
       | inr (inr above) ↦ absurd (omega arith)
     ])
 
 -- and the other way round
-pub upto-any : {A : Type 0} (p : A → Bool) (n : ℕ) (f : ℕ → List A) → list_any p (upto n f) ≡ true → (k : ℕ) × (k < n) × (list_any p (f k) ≡ true)
+pub upto-any : {A : Type 0} (p : A → Bool) (n : ℕ) (f : ℕ → List A) → list_any p (upto n f) ≡ true
+    → (k : ℕ) × (k < n) × (list_any p (f k) ≡ true)
 upto-any p zero f h = let none : list_any p (upto 0 f) ≡ false = ap (list_any p) (upto-none f) in absurd (cc)
 upto-any p (suc n) f h =
-    elim (or_cases (list_any p (upto n f)) (list_any p (f n)) (sym (list_any-append p (upto n f) (f n)) ∙ ap (list_any p) (sym (upto-suc n f)) ∙ h)) as (λ _. (k : ℕ) × (k < suc n) × (list_any p (f k) ≡ true)) [
+    elim (or_cases (list_any p (upto n f)) (list_any p (f n))
+    (sym (list_any-append p (upto n f) (f n)) ∙ ap (list_any p) (sym (upto-suc n f)) ∙ h)) as
+    (λ _. (k : ℕ) × (k < suc n) × (list_any p (f k) ≡ true)) [
       | inl before ↦ let r = upto-any p n f before in (r.0, omega (arith, r.1), r.2)
       | inr here ↦ (n, omega arith, here)
     ]
@@ -162,12 +174,16 @@ pairs-more (suc j) =
     grown j = half _ _ _ (product j)
 
 -- blocks of one length, for each pair of numbers
-pub length-triangle : {A : Type 0} (m n : ℕ) (f : ℕ → ℕ → List A) → ((i j : ℕ) → i < j → j < n → length (f i j) ≡ m) → length (upto n (λ j. upto j (λ i. f i j))) ≡ pairs_below n * m
+pub length-triangle : {A : Type 0} (m n : ℕ) (f : ℕ → ℕ → List A) → ((i j : ℕ) → i < j → j < n → length (f i j) ≡ m)
+    → length (upto n (λ j. upto j (λ i. f i j))) ≡ pairs_below n * m
 length-triangle m zero f h = let e : 0 ≡ pairs_below 0 * m = omega arith in ap length (upto-none (λ j. upto j (λ i. f i j))) ∙ e
 length-triangle m (suc n) f h =
-    let before : length (upto n (λ j. upto j (λ i. f i j))) ≡ pairs_below n * m = length-triangle m n f (λ i j lt below. h i j lt (omega arith)) in
+    let before : length (upto n (λ j. upto j (λ i. f i j))) ≡ pairs_below n * m =
+    length-triangle m n f (λ i j lt below. h i j lt (omega arith)) in
     let last : length (upto n (λ i. f i n)) ≡ n * m = length-upto m n (λ i. f i n) (λ i lt. h i n lt (omega arith)) in
-    let whole : length (upto (suc n) (λ j. upto j (λ i. f i j))) ≡ length (upto n (λ j. upto j (λ i. f i j))) + length (upto n (λ i. f i n)) = ap length (upto-suc n (λ j. upto j (λ i. f i j))) ∙ length-append (upto n (λ j. upto j (λ i. f i j))) (upto n (λ i. f i n)) in
+    let whole : length (upto (suc n) (λ j. upto j (λ i. f i j))) ≡ length (upto n (λ j. upto j (λ i. f i j))) + length
+    (upto n (λ i. f i n)) = ap length (upto-suc n (λ j. upto j (λ i. f i j)))
+    ∙ length-append (upto n (λ j. upto j (λ i. f i j))) (upto n (λ i. f i n)) in
     let e : pairs_below (suc n) * m ≡ pairs_below n * m + n * m = ap (λ p. p * m) (pairs-more n) ∙ distrib (pairs_below n) n m in
     omega arith
   where

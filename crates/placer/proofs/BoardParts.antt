@@ -16,7 +16,8 @@ ordered b read value sound t =
     subst (λ (v : ℕ). IsTrail v b.trail.entries) sound.same_vars (subst (λ (a : Assignment). IsTrail a.vars a.entries) value t)
 
 -- the clause of a number
-pub same_clause : (cs read : Clauses) (n : ℕ) (c d : List ℤ) → read ≡ cs → IsNumbered cs.clauses n c → slice_get read.clauses (n - 1) ≡ Some d →
+pub same_clause : (cs read : Clauses) (n : ℕ) (c d : List ℤ) → read ≡ cs → IsNumbered cs.clauses n c
+    → slice_get read.clauses (n - 1) ≡ Some d →
     c ≡ d
 same_clause cs read n c d value named there =
     same_Some c d (sym named.there ∙ ap (λ (x : Clauses). slice_get x.clauses (n - 1)) (sym value) ∙ there)

@@ -21,7 +21,8 @@ get_set_other (x ∷ xs) (suc i) zero v ne = refl
 get_set_other (x ∷ xs) (suc i) (suc k) v ne = get_set_other xs i k v (λ e. ne (ap suc e))
 
 -- an element of the changed list is the new one or an old one
-pub get_set_cases : {X : Type 0} (xs : List X) (i k : ℕ) (v x : X) → slice_get (set xs i v) k ≡ Some x → ((k ≡ i) × (v ≡ x)) ⊎ (slice_get xs k ≡ Some x)
+pub get_set_cases : {X : Type 0} (xs : List X) (i k : ℕ) (v x : X) → slice_get (set xs i v) k ≡ Some x
+    → ((k ≡ i) × (v ≡ x)) ⊎ (slice_get xs k ≡ Some x)
 get_set_cases xs i k v x h = ⊎_elim
     (λ (same : k ≡ i).
     let within : i < length xs = omega (arith, slice_get_within (set xs i v) k x h, length-set xs i v) in

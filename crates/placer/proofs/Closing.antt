@@ -27,7 +27,8 @@ implied_zero es l i e there low = by (e.reason == 0) refl
     by false t = let ne : e.reason ≢ 0 = eqb-false e.reason 0 t in omega arith
 
 -- at the start nothing has to be closed
-pub Closes_none : (cs : List (List ℤ)) (es : List Entry) (places : List ℕ) (from : ℕ) (marks : List Bool) → ((i : ℕ) (e : Entry) → from ≤ i → slice_get es i ≡ Some e → 0 < e.level) → Closes cs es places from marks marks
+pub Closes_none : (cs : List (List ℤ)) (es : List Entry) (places : List ℕ) (from : ℕ) (marks : List Bool)
+    → ((i : ℕ) (e : Entry) → from ≤ i → slice_get es i ≡ Some e → 0 < e.level) → Closes cs es places from marks marks
 Closes_none cs es places from marks above = record {
   sized = refl;
   kept = λ i h. h;
@@ -36,7 +37,9 @@ Closes_none cs es places from marks above = record {
 }
 
 -- one place less, whose entry is not of level 0 or not marked
-pub Closes_past : (cs : List (List ℤ)) (es : List Entry) (places : List ℕ) (place : ℕ) (old new : List Bool) → ((e : Entry) → slice_get es place ≡ Some e → e.level ≡ 0 → slice_get new place ≡ Some true → ⊥) → Closes cs es places (place + 1) old new → Closes cs es places place old new
+pub Closes_past : (cs : List (List ℤ)) (es : List Entry) (places : List ℕ) (place : ℕ) (old new : List Bool)
+    → ((e : Entry) → slice_get es place ≡ Some e → e.level ≡ 0 → slice_get new place ≡ Some true → ⊥)
+    → Closes cs es places (place + 1) old new → Closes cs es places place old new
 Closes_past cs es places place old new none k = record {
   sized = k.sized;
   kept = k.kept;
@@ -50,15 +53,21 @@ Closes_past cs es places place old new none k = record {
 }
 
 -- one place less, whose entry of level 0 is marked, and then its reason
-pub Closes_marked : (vars : ℕ) (cs : List (List ℤ)) (es : List Entry) (places : List ℕ) (place : ℕ) (old mid new : List Bool) (d : Entry) (c : List ℤ) → IsTrail vars es → IsLevelled es → AreForced cs es → ArePlaces vars es places → slice_get es place ≡ Some d → d.level ≡ 0 → 0 < d.reason → IsNumbered cs d.reason c → slice_get mid place ≡ Some true → Marks places c mid new → Closes cs es places (place + 1) old mid → Closes cs es places place old new
+pub Closes_marked : (vars : ℕ) (cs : List (List ℤ)) (es : List Entry) (places : List ℕ) (place : ℕ) (old mid new : List Bool) (d : Entry)
+    (c : List ℤ) → IsTrail vars es → IsLevelled es → AreForced cs es → ArePlaces vars es places → slice_get es place ≡ Some d
+    → d.level ≡ 0 → 0 < d.reason → IsNumbered cs d.reason c → slice_get mid place ≡ Some true → Marks places c mid new
+    → Closes cs es places (place + 1) old mid → Closes cs es places place old new
 Closes_marked vars cs es places place old mid new d c t l f p at low implied named own m k =
     let lower : (i : ℕ) → HasPlace places c i → i ≤ place = λ i h. ⊎_elim
     (λ (same : i ≡ place). let r : i ≤ place = omega arith in r)
-    (λ (r : (e : Entry) × (i < place) × (slice_get es i ≡ Some e) × Contains c (neg_ℤ e.lit)). let lt : i < place = r.1 in let le : i ≤ place = omega arith in le)
+    (λ (r : (e : Entry) × (i < place) × (slice_get es i ≡ Some e) × Contains c (neg_ℤ e.lit)). let lt : i < place = r.1 in
+    let le : i ≤ place = omega arith in le)
     (place_cases vars cs es places t f p place d c at implied named i h) in
     let zero_level : (i : ℕ) (e : Entry) → HasPlace places c i → slice_get es i ≡ Some e → e.level ≡ 0 = λ i e h there. ⊎_elim
-    (λ (same : i ≡ place). let is : e ≡ d = same_Some e d (sym there ∙ ap (slice_get es) same ∙ at) in ap (λ (x : Entry). x.level) is ∙ low)
-    (λ (r : (e : Entry) × (i < place) × (slice_get es i ≡ Some e) × Contains c (neg_ℤ e.lit)). let le : e.level ≤ d.level = level_rises es l i place e d r.1 there at in omega arith)
+    (λ (same : i ≡ place). let is : e ≡ d = same_Some e d (sym there ∙ ap (slice_get es) same ∙ at) in
+    ap (λ (x : Entry). x.level) is ∙ low)
+    (λ (r : (e : Entry) × (i < place) × (slice_get es i ≡ Some e) × Contains c (neg_ℤ e.lit)). let le : e.level ≤ d.level =
+    level_rises es l i place e d r.1 there at in omega arith)
     (place_cases vars cs es places t f p place d c at implied named i h) in
     record {
       sized = m.sized ∙ k.sized;

@@ -24,20 +24,25 @@ pub record IsNegatedBy (es : List Entry) (z : ℤ) : Type 0 where
   pub is : z ≡ neg_ℤ entry.lit
 
 -- a false literal is the negation of an entry's
-pub false_entry : (z : ℤ) (es : List Entry) → ((i : ℕ) (e : Entry) → slice_get es i ≡ Some e → 0 < var_of e.lit) → value_of z es ≡ Some false → IsNegatedBy es z
+pub false_entry : (z : ℤ) (es : List Entry) → ((i : ℕ) (e : Entry) → slice_get es i ≡ Some e → 0 < var_of e.lit)
+    → value_of z es ≡ Some false → IsNegatedBy es z
 false_entry z [] above h = cc
 false_entry z (e ∷ es) above h = by (var_of e.lit == var_of z) refl (λ v. false_entry z es (λ i d there. above (suc i) d there) v) h
   where
-    by : (b : Bool) → (var_of e.lit == var_of z) ≡ b → (value_of z es ≡ Some false → IsNegatedBy es z) → option_map (λ s. if is_positive z then s else not s) (if b then Some (is_positive e.lit) else sign_of (var_of z) es) ≡ Some false → IsNegatedBy (e ∷ es) z
+    by : (b : Bool) → (var_of e.lit == var_of z) ≡ b → (value_of z es ≡ Some false → IsNegatedBy es z)
+        → option_map (λ s. if is_positive z then s else not s)
+        (if b then Some (is_positive e.lit) else sign_of (var_of z) es) ≡ Some false → IsNegatedBy (e ∷ es) z
     by true t rest v =
-        let one : value_of z (e ∷ []) ≡ Some false = ap (λ b. option_map (λ s. if is_positive z then s else not s) (if b then Some (is_positive e.lit) else None)) t ∙ v in
+        let one : value_of z (e ∷ []) ≡ Some false =
+        ap (λ b. option_map (λ s. if is_positive z then s else not s) (if b then Some (is_positive e.lit) else None)) t ∙ v in
         record { place = 0; entry = e; there = refl; is = value_one_false z e (above 0 e refl) one }
     by false t rest v =
         let r : IsNegatedBy es z = rest v in
         record { place = suc r.place; entry = r.entry; there = r.there; is = r.is }
 
 -- an entry among the first is one
-pub take_entry : (es : List Entry) (n i : ℕ) (e : Entry) → n ≤ length es → slice_get (take n es) i ≡ Some e → (i < n) × (slice_get es i ≡ Some e)
+pub take_entry : (es : List Entry) (n i : ℕ) (e : Entry) → n ≤ length es → slice_get (take n es) i ≡ Some e
+    → (i < n) × (slice_get es i ≡ Some e)
 take_entry es n i e le h =
     let within : i < length (take n es) = slice_get_within (take n es) i e h in
     let size : length (take n es) ≡ n = length-take-le n es le in
@@ -46,16 +51,20 @@ take_entry es n i e le h =
     (lt, slice_get-get_or es i e (omega arith) ∙ ap Some (sym (get_or-take n es i e lt) ∙ is))
 
 -- the level of an entry's variable
-pub level_there : (es : List Entry) (i : ℕ) (e : Entry) → ((i : ℕ) (e : Entry) → slice_get es i ≡ Some e → sign_of (var_of e.lit) (take i es) ≡ None) → slice_get es i ≡ Some e → level_at (var_of e.lit) es ≡ e.level
+pub level_there : (es : List Entry) (i : ℕ) (e : Entry)
+    → ((i : ℕ) (e : Entry) → slice_get es i ≡ Some e → sign_of (var_of e.lit) (take i es) ≡ None) → slice_get es i ≡ Some e
+    → level_at (var_of e.lit) es ≡ e.level
 level_there [] i e fresh there = cc
 level_there (x ∷ es) zero e fresh there =
     let same : x ≡ e = same_Some x e there in
-    ap (λ b. if b then x.level else level_at (var_of e.lit) es) (eq-eqb (var_of x.lit) (var_of e.lit) (ap (λ (y : Entry). var_of y.lit) same)) ∙ ap (λ (y : Entry). y.level) same
+    ap (λ b. if b then x.level else level_at (var_of e.lit) es)
+    (eq-eqb (var_of x.lit) (var_of e.lit) (ap (λ (y : Entry). var_of y.lit) same)) ∙ ap (λ (y : Entry). y.level) same
 level_there (x ∷ es) (suc i) e fresh there =
     let none : sign_in (var_of e.lit) (x.lit ∷ lits_of (take i es)) ≡ None = fresh (suc i) e there in
     let other : var_of x.lit ≡ var_of e.lit → ⊥ = (step-none (var_of e.lit) x.lit (lits_of (take i es)) none).0 in
     let no : (var_of x.lit == var_of e.lit) ≡ false = by (var_of x.lit == var_of e.lit) refl other in
-    ap (λ b. if b then x.level else level_at (var_of e.lit) es) no ∙ level_there es i e (λ k d at. (step-none (var_of d.lit) x.lit (lits_of (take k es)) (fresh (suc k) d at)).1) there
+    ap (λ b. if b then x.level else level_at (var_of e.lit) es) no
+    ∙ level_there es i e (λ k d at. (step-none (var_of d.lit) x.lit (lits_of (take k es)) (fresh (suc k) d at)).1) there
   where
     by : (b : Bool) → (var_of x.lit == var_of e.lit) ≡ b → (var_of x.lit ≡ var_of e.lit → ⊥) → b ≡ false
     by true t other = absurd (other (eqb-true (var_of x.lit) (var_of e.lit) t))
@@ -63,17 +72,22 @@ level_there (x ∷ es) (suc i) e fresh there =
 
 -- the level of an entry is at most the present one
 pub level_most : (vars : ℕ) (es : List Entry) → IsTrail vars es → (i : ℕ) (e : Entry) → slice_get es i ≡ Some e → e.level ≤ level_of es
-level_most vars es t i e there = subst (λ (x : Entry). x.level ≤ level_of es) (get_or_from_slice_get es i e e there) (level-below vars es t i e (slice_get_within es i e there))
+level_most vars es t i e there =
+    subst (λ (x : Entry). x.level ≤ level_of es) (get_or_from_slice_get es i e e there)
+    (level-below vars es t i e (slice_get_within es i e there))
 
 -- levels never fall
-pub level_rises : (es : List Entry) → IsLevelled es → (i j : ℕ) (d e : Entry) → i < j → slice_get es i ≡ Some d → slice_get es j ≡ Some e → d.level ≤ e.level
+pub level_rises : (es : List Entry) → IsLevelled es → (i j : ℕ) (d e : Entry) → i < j → slice_get es i ≡ Some d → slice_get es j ≡ Some e
+    → d.level ≤ e.level
 level_rises es l i j d e lt at there =
     let within : j < length es = slice_get_within es j e there in
     let le : (get_or es i d).level ≤ (get_or es j d).level = l.rising i j d lt within in
-    subst (λ (x : Entry). x.level ≤ e.level) (get_or_from_slice_get es i d d at) (subst (λ (x : Entry). (get_or es i d).level ≤ x.level) (get_or_from_slice_get es j e d there) le)
+    subst (λ (x : Entry). x.level ≤ e.level) (get_or_from_slice_get es i d d at)
+    (subst (λ (x : Entry). (get_or es i d).level ≤ x.level) (get_or_from_slice_get es j e d there) le)
 
 -- an entry after one of the same level above 0 is implied
-pub implied_after : (es : List Entry) → IsLevelled es → (i j : ℕ) (d e : Entry) → i < j → slice_get es i ≡ Some d → slice_get es j ≡ Some e → d.level ≡ e.level → 0 < e.level → 0 < e.reason
+pub implied_after : (es : List Entry) → IsLevelled es → (i j : ℕ) (d e : Entry) → i < j → slice_get es i ≡ Some d
+    → slice_get es j ≡ Some e → d.level ≡ e.level → 0 < e.level → 0 < e.reason
 implied_after es l i j d e lt at there same above = by (e.reason == 0) refl
   where
     within : j < length es

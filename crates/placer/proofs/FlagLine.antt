@@ -45,7 +45,8 @@ module _ (vars : ℕ) (cs : List (List ℤ)) (es : List Entry) (n : ℕ) (kept u
     above = subst (λ (l : List ℤ). All (λ y. 0 < var_of y) l) (sym clause_is)
         (all_kept kept (λ y. 0 < var_of y) es (λ i e there h. subst (λ (v : ℕ). 0 < v) (sym (var-neg e.lit)) (t i e there).above));
     in_range = subst (λ (l : List ℤ). All (λ y. var_of y ≤ vars) l) (sym clause_is)
-        (all_kept kept (λ y. var_of y ≤ vars) es (λ i e there h. subst (λ (v : ℕ). v ≤ vars) (sym (var-neg e.lit)) (t i e there).in_range));
+        (all_kept kept (λ y. var_of y ≤ vars) es
+        (λ i e there h. subst (λ (v : ℕ). v ≤ vars) (sym (var-neg e.lit)) (t i e there).in_range));
     apart = subst (λ (l : List ℤ). AllPairs (λ x y. var_of x ≢ var_of y) l) (sym clause_is)
         (apart-pairs (flat_map (negation_if kept) es) (apart_kept kept es (trail-apart vars es t)));
     run = subst (λ (l : List ℤ). IsUnitRun cs (map neg_ℤ l) line.hints) (sym clause_is)

@@ -16,23 +16,29 @@ use Rattle.placer.proofs.MarkedRun.{part_of}
 use Rattle.placer.proofs.FlagRun.{flagged}
 
 -- what holds of each
-pub all_kept : (k : ℕ → Bool) (P : ℤ → Type 0) (es : List Entry) → ((i : ℕ) (e : Entry) → slice_get es i ≡ Some e → k (var_of e.lit) ≡ true → P (neg_ℤ e.lit)) → All P (flat_map (negation_if k) es)
+pub all_kept : (k : ℕ → Bool) (P : ℤ → Type 0) (es : List Entry)
+    → ((i : ℕ) (e : Entry) → slice_get es i ≡ Some e → k (var_of e.lit) ≡ true → P (neg_ℤ e.lit)) → All P (flat_map (negation_if k) es)
 all_kept k P [] h = All-nil P
 all_kept k P (e ∷ es) h = by (k (var_of e.lit)) refl (all_kept k P es (λ i d there. h (suc i) d there))
   where
-    by : (b : Bool) → k (var_of e.lit) ≡ b → All P (flat_map (negation_if k) es) → All P ((if b then neg_ℤ e.lit ∷ [] else []) ++ flat_map (negation_if k) es)
+    by : (b : Bool) → k (var_of e.lit) ≡ b → All P (flat_map (negation_if k) es)
+        → All P ((if b then neg_ℤ e.lit ∷ [] else []) ++ flat_map (negation_if k) es)
     by true t r = All-cons P (neg_ℤ e.lit) (flat_map (negation_if k) es) (h 0 e refl t) r
     by false t r = r
 
 -- each is there
-pub kept_there : (k : ℕ → Bool) (es : List Entry) (i : ℕ) (e : Entry) → slice_get es i ≡ Some e → k (var_of e.lit) ≡ true → Contains (flat_map (negation_if k) es) (neg_ℤ e.lit)
+pub kept_there : (k : ℕ → Bool) (es : List Entry) (i : ℕ) (e : Entry) → slice_get es i ≡ Some e → k (var_of e.lit) ≡ true
+    → Contains (flat_map (negation_if k) es) (neg_ℤ e.lit)
 kept_there k [] i e there h = cc
 kept_there k (x ∷ es) zero e there h =
     let same : x ≡ e = same_Some x e there in
-    let one : Contains (neg_ℤ x.lit ∷ []) (neg_ℤ e.lit) = let lt : 0 < length (neg_ℤ x.lit ∷ []) = omega arith in (0, lt, ap (λ (y : Entry). neg_ℤ y.lit) same) in
+    let one : Contains (neg_ℤ x.lit ∷ []) (neg_ℤ e.lit) = let lt : 0 < length (neg_ℤ x.lit ∷ []) = omega arith in
+    (0, lt, ap (λ (y : Entry). neg_ℤ y.lit) same) in
     let on : k (var_of x.lit) ≡ true = ap (λ (y : Entry). k (var_of y.lit)) same ∙ h in
-    Contains-append_left (negation_if k x) (flat_map (negation_if k) es) (neg_ℤ e.lit) (subst (λ (b : Bool). Contains (if b then neg_ℤ x.lit ∷ [] else []) (neg_ℤ e.lit)) (sym on) one)
-kept_there k (x ∷ es) (suc i) e there h = Contains-append_right (negation_if k x) (flat_map (negation_if k) es) (neg_ℤ e.lit) (kept_there k es i e there h)
+    Contains-append_left (negation_if k x) (flat_map (negation_if k) es) (neg_ℤ e.lit)
+    (subst (λ (b : Bool). Contains (if b then neg_ℤ x.lit ∷ [] else []) (neg_ℤ e.lit)) (sym on) one)
+kept_there k (x ∷ es) (suc i) e there h =
+    Contains-append_right (negation_if k x) (flat_map (negation_if k) es) (neg_ℤ e.lit) (kept_there k es i e there h)
 
 -- an entry that passes gives the literal
 pub record IsFromKept (k : ℕ → Bool) (es : List Entry) (z : ℤ) : Type 0 where
@@ -53,7 +59,13 @@ there_kept k (e ∷ es) z h = ⊎_elim
     first : (b : Bool) → k (var_of e.lit) ≡ b → Contains (if b then neg_ℤ e.lit ∷ [] else []) z → IsFromKept k (e ∷ es) z
     first true t i =
         let zero_there : i.0 ≡ 0 = let lt : i.0 < length (neg_ℤ e.lit ∷ []) = i.1 in omega arith in
-        record { place = 0; entry = e; there = refl; passes = t; is = sym (sym (ap (λ n. get_or (neg_ℤ e.lit ∷ []) n z) zero_there) ∙ i.2) }
+        record {
+          place = 0;
+          entry = e;
+          there = refl;
+          passes = t;
+          is = sym (sym (ap (λ n. get_or (neg_ℤ e.lit ∷ []) n z) zero_there) ∙ i.2);
+        }
     first false t i = let lt : i.0 < length {A = ℤ} [] = i.1 in absurd (omega arith)
 
     more : IsFromKept k es z → IsFromKept k (e ∷ es) z
@@ -63,9 +75,11 @@ none_kept : (k : ℕ → Bool) (v : ℕ) (es : List Entry) → sign_of v es ≡ 
 none_kept k v [] h = refl
 none_kept k v (e ∷ es) h = by (k (var_of e.lit)) (none_kept k v es (step-none v e.lit (lits_of es) h).1)
   where
-    by : (p : Bool) → sign_in v (flat_map (negation_if k) es) ≡ None → sign_in v ((if p then neg_ℤ e.lit ∷ [] else []) ++ flat_map (negation_if k) es) ≡ None
+    by : (p : Bool) → sign_in v (flat_map (negation_if k) es) ≡ None
+        → sign_in v ((if p then neg_ℤ e.lit ∷ [] else []) ++ flat_map (negation_if k) es) ≡ None
     by true r =
-        let no : (var_of (neg_ℤ e.lit) == v) ≡ false = ne_eqb (var_of (neg_ℤ e.lit)) v (λ s. (step-none v e.lit (lits_of es) h).0 (sym (var-neg e.lit) ∙ s)) in
+        let no : (var_of (neg_ℤ e.lit) == v) ≡ false =
+        ne_eqb (var_of (neg_ℤ e.lit)) v (λ s. (step-none v e.lit (lits_of es) h).0 (sym (var-neg e.lit) ∙ s)) in
         ap (λ b. if b then Some (is_positive (neg_ℤ e.lit)) else sign_in v (flat_map (negation_if k) es)) no ∙ r
     by false r = r
 
@@ -74,7 +88,8 @@ pub apart_kept : (k : ℕ → Bool) (es : List Entry) → AreApart (lits_of es) 
 apart_kept k [] a = a
 apart_kept k (e ∷ es) a = by (k (var_of e.lit)) (apart_kept k es a.1)
   where
-    by : (p : Bool) → AreApart (flat_map (negation_if k) es) → AreApart ((if p then neg_ℤ e.lit ∷ [] else []) ++ flat_map (negation_if k) es)
+    by : (p : Bool) → AreApart (flat_map (negation_if k) es)
+        → AreApart ((if p then neg_ℤ e.lit ∷ [] else []) ++ flat_map (negation_if k) es)
     by true r = (none_kept k (var_of (neg_ℤ e.lit)) es (ap (λ w. sign_of w es) (var-neg e.lit) ∙ a.0), r)
     by false r = r
 
@@ -83,6 +98,8 @@ pub negated_kept : (k : ℕ → Bool) (es : List Entry) → map neg_ℤ (flat_ma
 negated_kept k [] = refl
 negated_kept k (e ∷ es) = by (k (var_of e.lit)) (negated_kept k es)
   where
-    by : (b : Bool) → map neg_ℤ (flat_map (negation_if k) es) ≡ flat_map (part_of (flagged k)) es → map neg_ℤ ((if b then neg_ℤ e.lit ∷ [] else []) ++ flat_map (negation_if k) es) ≡ (if b then e.lit ∷ [] else []) ++ flat_map (part_of (flagged k)) es
+    by : (b : Bool) → map neg_ℤ (flat_map (negation_if k) es) ≡ flat_map (part_of (flagged k)) es
+        → map neg_ℤ ((if b then neg_ℤ e.lit ∷ [] else []) ++ flat_map (negation_if k) es) ≡ (if b then e.lit ∷ [] else []) ++ flat_map
+        (part_of (flagged k)) es
     by true h = ap (λ z. z ∷ map neg_ℤ (flat_map (negation_if k) es)) (neg-neg e.lit) ∙ ap (λ l. e.lit ∷ l) h
     by false h = h

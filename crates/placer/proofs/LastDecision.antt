@@ -25,7 +25,14 @@ last_decision (e ∷ es) lt = ⊎_elim
     (cases_lt 0 (level_of es))
   where
     later : HasLast es → HasLast (e ∷ es)
-    later r = record { before = e ∷ r.before; own = r.own; after = r.after; split = ap (λ l. e ∷ l) r.split; decision = r.decision; quiet = r.quiet }
+    later r = record {
+      before = e ∷ r.before;
+      own = r.own;
+      after = r.after;
+      split = ap (λ l. e ∷ l) r.split;
+      decision = r.decision;
+      quiet = r.quiet;
+    }
 
     here : level_of es ≤ 0 → HasLast (e ∷ es)
     here low = by (e.reason == 0) refl

@@ -22,9 +22,11 @@ use Rattle.placer.proofs.FlagRun.{IsClosed}
 use Rattle.placer.proofs.FlagLine.{Derived_flags}
 
 -- where no entry is kept, no literal is
-none_of : (k : ℕ → Bool) (es : List Entry) → ((i : ℕ) (e : Entry) → slice_get es i ≡ Some e → k (var_of e.lit) ≡ false) → flat_map (negation_if k) es ≡ []
+none_of : (k : ℕ → Bool) (es : List Entry) → ((i : ℕ) (e : Entry) → slice_get es i ≡ Some e → k (var_of e.lit) ≡ false)
+    → flat_map (negation_if k) es ≡ []
 none_of k [] h = refl
-none_of k (e ∷ es) h = ap (λ b. (if b then neg_ℤ e.lit ∷ [] else []) ++ flat_map (negation_if k) es) (h 0 e refl) ∙ none_of k es (λ i d there. h (suc i) d there)
+none_of k (e ∷ es) h = ap (λ b. (if b then neg_ℤ e.lit ∷ [] else []) ++ flat_map (negation_if k) es) (h 0 e refl)
+    ∙ none_of k es (λ i d there. h (suc i) d there)
 
 module _ (vars : ℕ) (cs : List (List ℤ)) (es : List Entry) (places : List ℕ) (t : IsTrail vars es) (f : AreForced cs es)
     (p : ArePlaces vars es places) (n : ℕ) (conflict : IsConflict (lits_of es) cs n) (blank first marks : List Bool)
@@ -57,7 +59,8 @@ module _ (vars : ℕ) (cs : List (List ℤ)) (es : List Entry) (places : List �
   -- a marked entry has a flag, said of the negation of its literal
   flagged_neg : (i : ℕ) (e : Entry) (y : ℤ) → slice_get es i ≡ Some e → slice_get marks i ≡ Some true → y ≡ neg_ℤ e.lit →
       (kept (var_of y) || used (var_of y)) ≡ true
-  flagged_neg i e y there on is = ap (λ v. kept v || used v) (ap var_of is ∙ var-neg e.lit) ∙ entry_flagged vars es places marks 0 i e t p there on
+  flagged_neg i e y there on is = ap (λ v. kept v || used v) (ap var_of is ∙ var-neg e.lit)
+      ∙ entry_flagged vars es places marks 0 i e t p there on
 
   -- the reason of a used entry is flagged
   closed_used : (i : ℕ) (e : Entry) → slice_get es i ≡ Some e → used (var_of e.lit) ≡ true → (c : List ℤ) → IsNumbered cs e.reason c →
@@ -93,4 +96,5 @@ module _ (vars : ℕ) (cs : List (List ℤ)) (es : List Entry) (places : List �
       Derived (record { vars = vars; clauses = cs }) line
   Derived_last line clause_is hints_is =
       Derived_flags vars cs es n kept used t f (λ v h. one_flag es places marks 0 v h)
-      (λ i e there u. implied_zero es levelled i e there (level_zero i e there)) closed_used conflict flagged_conflict line clause_is hints_is
+      (λ i e there u. implied_zero es levelled i e there (level_zero i e there))
+      closed_used conflict flagged_conflict line clause_is hints_is

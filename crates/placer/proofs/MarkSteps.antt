@@ -17,7 +17,8 @@ has_left places xs z k h = record { lit = h.lit; held = Contains-append_left xs 
 has_last : (places : List ℕ) (xs : List ℤ) (z : ℤ) (k : ℕ) → slice_get places (var_of z) ≡ Some k → HasPlace places (xs ++ z ∷ []) k
 has_last places xs z k there = record { lit = z; held = Contains-push xs z; there = there }
 
-has_push : (places : List ℕ) (xs : List ℤ) (z : ℤ) (k : ℕ) → HasPlace places (xs ++ z ∷ []) k → HasPlace places xs k ⊎ (slice_get places (var_of z) ≡ Some k)
+has_push : (places : List ℕ) (xs : List ℤ) (z : ℤ) (k : ℕ) → HasPlace places (xs ++ z ∷ []) k
+    → HasPlace places xs k ⊎ (slice_get places (var_of z) ≡ Some k)
 has_push places xs z k h = ⊎_elim
     (λ (old : Contains xs h.lit). let r : HasPlace places xs k = record { lit = h.lit; held = old; there = h.there } in inl r)
     (λ (same : z ≡ h.lit). inr (ap (λ y. slice_get places (var_of y)) same ∙ h.there))
@@ -37,7 +38,8 @@ pub IsBack_none : (es : List Entry) (places : List ℕ) (point : ℕ) → IsBack
 IsBack_none es places point = record { most = λ l h. absurd (has_none places h.place h.held.held); met = inl refl }
 
 -- one literal more is marked
-pub Marks_push : (places : List ℕ) (xs : List ℤ) (z : ℤ) (p : ℕ) (old mid : List Bool) → slice_get places (var_of z) ≡ Some p → p < length mid → Marks places xs old mid → Marks places (xs ++ z ∷ []) old (set mid p true)
+pub Marks_push : (places : List ℕ) (xs : List ℤ) (z : ℤ) (p : ℕ) (old mid : List Bool) → slice_get places (var_of z) ≡ Some p
+    → p < length mid → Marks places xs old mid → Marks places (xs ++ z ∷ []) old (set mid p true)
 Marks_push places xs z p old mid there lt k =
     let still : (i : ℕ) → slice_get mid i ≡ Some true → slice_get (set mid p true) i ≡ Some true = λ i h. ⊎_elim
     (λ (same : i ≡ p). ap (slice_get (set mid p true)) same ∙ get_set_same mid p true lt)
@@ -48,7 +50,8 @@ Marks_push places xs z p old mid there lt k =
       kept = λ i h. still i (k.kept i h);
       held = λ i h. ⊎_elim
           (λ (before : HasPlace places xs i). still i (k.held i before))
-          (λ (last : slice_get places (var_of z) ≡ Some i). let same : p ≡ i = same_Some p i (sym there ∙ last) in ap (slice_get (set mid p true)) (sym same) ∙ get_set_same mid p true lt)
+          (λ (last : slice_get places (var_of z) ≡ Some i). let same : p ≡ i = same_Some p i (sym there ∙ last) in
+          ap (slice_get (set mid p true)) (sym same) ∙ get_set_same mid p true lt)
           (has_push places xs z i h);
       only = λ i h. ⊎_elim
           (λ (new_one : (i ≡ p) × (true ≡ true)). inr (has_last places xs z i (there ∙ ap Some (sym new_one.0))))
@@ -60,7 +63,9 @@ Marks_push places xs z p old mid there lt k =
     }
 
 -- the least place with one literal more
-pub Lowers_push : (es : List Entry) (places : List ℕ) (level : ℕ) (xs : List ℤ) (z : ℤ) (p : ℕ) (e : Entry) (old mid new : ℕ) → slice_get places (var_of z) ≡ Some p → slice_get es p ≡ Some e → new ≤ mid → (e.level ≡ level → new ≤ p) → (new ≡ mid) ⊎ ((new ≡ p) × (e.level ≡ level)) → Lowers es places level xs old mid → Lowers es places level (xs ++ z ∷ []) old new
+pub Lowers_push : (es : List Entry) (places : List ℕ) (level : ℕ) (xs : List ℤ) (z : ℤ) (p : ℕ) (e : Entry) (old mid new : ℕ)
+    → slice_get places (var_of z) ≡ Some p → slice_get es p ≡ Some e → new ≤ mid → (e.level ≡ level → new ≤ p)
+    → (new ≡ mid) ⊎ ((new ≡ p) × (e.level ≡ level)) → Lowers es places level xs old mid → Lowers es places level (xs ++ z ∷ []) old new
 Lowers_push es places level xs z p e old mid new there at lower least own k =
     let below : mid ≤ old = k.lower in
     record {
@@ -79,20 +84,42 @@ Lowers_push es places level xs z p e old mid new there at lower least own k =
       own = ⊎_elim
           (λ (a : new ≡ mid). ⊎_elim
           (λ (b : mid ≡ old). inl (a ∙ b))
-          (λ (b : HasPlaceAt es places level xs mid). let r : HasPlaceAt es places level (xs ++ z ∷ []) mid = record { held = has_left places xs z mid b.held; entry = b.entry; there = b.there; present = b.present } in inr (subst (λ i. HasPlaceAt es places level (xs ++ z ∷ []) i) (sym a) r))
+          (λ (b : HasPlaceAt es places level xs mid). let r : HasPlaceAt es places level (xs ++ z ∷ []) mid =
+          record { held = has_left places xs z mid b.held; entry = b.entry; there = b.there; present = b.present } in
+          inr (subst (λ i. HasPlaceAt es places level (xs ++ z ∷ []) i) (sym a) r))
           k.own)
-          (λ (a : (new ≡ p) × (e.level ≡ level)). let r : HasPlaceAt es places level (xs ++ z ∷ []) p = record { held = has_last places xs z p there; entry = e; there = at; present = a.1 } in inr (subst (λ i. HasPlaceAt es places level (xs ++ z ∷ []) i) (sym a.0) r))
+          (λ (a : (new ≡ p) × (e.level ≡ level)). let r : HasPlaceAt es places level (xs ++ z ∷ []) p =
+          record { held = has_last places xs z p there; entry = e; there = at; present = a.1 } in
+          inr (subst (λ i. HasPlaceAt es places level (xs ++ z ∷ []) i) (sym a.0) r))
           own;
     }
 
 -- the greatest level with one literal more
-pub IsBack_push : (es : List Entry) (places : List ℕ) (point : ℕ) (xs : List ℤ) (z : ℤ) (p : ℕ) (e : Entry) (mid new : ℕ) → slice_get places (var_of z) ≡ Some p → slice_get es p ≡ Some e → mid ≤ new → (p ≢ point → e.level ≤ new) → (new ≡ mid) ⊎ ((new ≡ e.level) × (p ≢ point)) → IsBack es places point xs mid → IsBack es places point (xs ++ z ∷ []) new
+pub IsBack_push : (es : List Entry) (places : List ℕ) (point : ℕ) (xs : List ℤ) (z : ℤ) (p : ℕ) (e : Entry) (mid new : ℕ)
+    → slice_get places (var_of z) ≡ Some p → slice_get es p ≡ Some e → mid ≤ new → (p ≢ point → e.level ≤ new)
+    → (new ≡ mid) ⊎ ((new ≡ e.level) × (p ≢ point)) → IsBack es places point xs mid → IsBack es places point (xs ++ z ∷ []) new
 IsBack_push es places point xs z p e mid new there at lower most own k =
-    let more : (l : ℕ) → HasOther es places point xs l → HasOther es places point (xs ++ z ∷ []) l = λ l b. record { place = b.place; held = record { held = has_left places xs z b.place b.held.held; entry = b.held.entry; there = b.held.there; present = b.held.present }; apart = b.apart } in
+    let more : (l : ℕ) → HasOther es places point xs l
+    → HasOther es places point (xs ++ z ∷ []) l =
+    λ l b. record {
+      place = b.place;
+      held = record {
+        held = has_left places xs z b.place b.held.held;
+        entry = b.held.entry;
+        there = b.held.there;
+        present = b.held.present;
+      };
+      apart = b.apart;
+    } in
     record {
       most = λ l h. ⊎_elim
           (λ (before : HasPlace places xs h.place).
-          let b : HasOther es places point xs l = record { place = h.place; held = record { held = before; entry = h.held.entry; there = h.held.there; present = h.held.present }; apart = h.apart } in
+          let b : HasOther es places point xs l =
+          record {
+            place = h.place;
+            held = record { held = before; entry = h.held.entry; there = h.held.there; present = h.held.present };
+            apart = h.apart;
+          } in
           let le : l ≤ mid = k.most l b in
           omega arith)
           (λ (last : slice_get places (var_of z) ≡ Some h.place).
@@ -107,12 +134,18 @@ IsBack_push es places point xs z p e mid new there at lower most own k =
           (λ (b : mid ≡ 0). inl (a ∙ b))
           (λ (b : HasOther es places point xs mid). inr (subst (λ l. HasOther es places point (xs ++ z ∷ []) l) (sym a) (more mid b)))
           k.met)
-          (λ (a : (new ≡ e.level) × (p ≢ point)). let r : HasOther es places point (xs ++ z ∷ []) e.level = record { place = p; held = record { held = has_last places xs z p there; entry = e; there = at; present = refl }; apart = a.1 } in inr (subst (λ l. HasOther es places point (xs ++ z ∷ []) l) (sym a.0) r))
+          (λ (a : (new ≡ e.level) × (p ≢ point)). let r : HasOther es places point (xs ++ z ∷ []) e.level =
+          record {
+            place = p;
+            held = record { held = has_last places xs z p there; entry = e; there = at; present = refl };
+            apart = a.1;
+          } in inr (subst (λ l. HasOther es places point (xs ++ z ∷ []) l) (sym a.0) r))
           own;
     }
 
 -- the next literal of a clause
-pub next_lit : (clause : List ℤ) (i : ℕ) (z : ℤ) → i < length clause → z ≡ get_or clause i z → take (i + 1) clause ≡ take i clause ++ z ∷ []
+pub next_lit : (clause : List ℤ) (i : ℕ) (z : ℤ) → i < length clause → z ≡ get_or clause i z
+    → take (i + 1) clause ≡ take i clause ++ z ∷ []
 next_lit clause i z lt is = take_more clause i z lt ∙ ap (λ y. take i clause ++ y ∷ []) (sym is)
 
 -- the place that is read for a literal

@@ -10,12 +10,14 @@ use Rattle.placer.specs.FirstPoint.{IsMarked, by_conflict, by_reason}
 -- what is marked for a place is marked for each place before it
 pub marked_less : (cs : List (List ℤ)) (es : List Entry) (n q r : ℕ) {i : ℕ} → r ≤ q → IsMarked cs es n q i → IsMarked cs es n r i
 marked_less cs es n q r le (by_conflict i e c there named holds) = by_conflict i e c there named holds
-marked_less cs es n q r le (by_reason i j e d c lt after there at m named holds) = by_reason i j e d c lt (omega arith) there at (marked_less cs es n q r le m) named holds
+marked_less cs es n q r le (by_reason i j e d c lt after there at m named holds) =
+    by_reason i j e d c lt (omega arith) there at (marked_less cs es n q r le m) named holds
 
 -- from a place on, being marked for it and for the place before it are the same
 pub marked_high : (cs : List (List ℤ)) (es : List Entry) (n q : ℕ) {i : ℕ} → q < i → IsMarked cs es n q i → IsMarked cs es n (q + 1) i
 marked_high cs es n q high (by_conflict i e c there named holds) = by_conflict i e c there named holds
-marked_high cs es n q high (by_reason i j e d c lt after there at m named holds) = by_reason i j e d c lt (omega arith) there at (marked_high cs es n q after m) named holds
+marked_high cs es n q high (by_reason i j e d c lt after there at m named holds) =
+    by_reason i j e d c lt (omega arith) there at (marked_high cs es n q after m) named holds
 
 -- the reason of the entry at a place holds the negation of another entry's literal
 pub record IsHeldBy (cs : List (List ℤ)) (es : List Entry) (p i : ℕ) : Type 0 where
@@ -28,7 +30,8 @@ pub record IsHeldBy (cs : List (List ℤ)) (es : List Entry) (p i : ℕ) : Type 
   pub holds : Contains clause (neg_ℤ entry.lit)
 
 -- one place less: what is marked besides is what the reason at that place holds, where that place is marked
-pub marked_step : (cs : List (List ℤ)) (es : List Entry) (n q : ℕ) {i : ℕ} → IsMarked cs es n q i → IsMarked cs es n (q + 1) i ⊎ (IsMarked cs es n (q + 1) (q + 1) × IsHeldBy cs es (q + 1) i)
+pub marked_step : (cs : List (List ℤ)) (es : List Entry) (n q : ℕ) {i : ℕ} → IsMarked cs es n q i
+    → IsMarked cs es n (q + 1) i ⊎ (IsMarked cs es n (q + 1) (q + 1) × IsHeldBy cs es (q + 1) i)
 marked_step cs es n q (by_conflict i e c there named holds) = inl (by_conflict i e c there named holds)
 marked_step cs es n q (by_reason i j e d c lt after there at m named holds) = ⊎_elim
     (λ (far : q + 1 < j). inl (by_reason i j e d c lt far there at (marked_high cs es n q after m) named holds))

@@ -29,7 +29,9 @@ use Rattle.placer.proofs.FlagRun.{IsClosed}
 use Rattle.placer.proofs.FlagLine.{Derived_flags}
 use Rattle.placer.proofs.KeptEntries.{all_kept, kept_there, IsFromKept, there_kept}
 
-module _ (vars : ℕ) (cs : List (List ℤ)) (es : List Entry) (places : List ℕ) (t : IsTrail vars es) (f : AreForced cs es) (p : ArePlaces vars es places) (n q : ℕ) (first marks : List Bool) (conflict : IsConflict (lits_of es) cs n) (k : IsAtPlace cs es n q first q) (z : Closes cs es places 0 first marks) (above : 0 < level_of es) where
+module _ (vars : ℕ) (cs : List (List ℤ)) (es : List Entry) (places : List ℕ) (t : IsTrail vars es) (f : AreForced cs es)
+    (p : ArePlaces vars es places) (n q : ℕ) (first marks : List Bool) (conflict : IsConflict (lits_of es) cs n)
+    (k : IsAtPlace cs es n q first q) (z : Closes cs es places 0 first marks) (above : 0 < level_of es) where
   abbrev kept : ℕ → Bool
   kept = is_kept es places marks q
 
@@ -43,7 +45,8 @@ module _ (vars : ℕ) (cs : List (List ℤ)) (es : List Entry) (places : List �
   over i e there = (t i e there).above
 
   -- a mark above level 0 is one for the point
-  first_marked : (i : ℕ) (e : Entry) → slice_get es i ≡ Some e → slice_get marks i ≡ Some true → 0 < e.level → slice_get first i ≡ Some true
+  first_marked : (i : ℕ) (e : Entry) → slice_get es i ≡ Some e → slice_get marks i ≡ Some true → 0 < e.level
+      → slice_get first i ≡ Some true
   first_marked i e there on lt = ⊎_elim
       (λ (h : slice_get first i ≡ Some true). h)
       (λ (none : e.level ≡ 0). absurd (omega arith))
@@ -58,8 +61,10 @@ module _ (vars : ℕ) (cs : List (List ℤ)) (es : List Entry) (places : List �
       omega arith
 
   -- a marked entry has a flag, said of the negation of its literal
-  flagged_neg : (i : ℕ) (e : Entry) (y : ℤ) → slice_get es i ≡ Some e → slice_get marks i ≡ Some true → y ≡ neg_ℤ e.lit → (kept (var_of y) || used (var_of y)) ≡ true
-  flagged_neg i e y there on is = ap (λ v. kept v || used v) (ap var_of is ∙ var-neg e.lit) ∙ entry_flagged vars es places marks q i e t p there on
+  flagged_neg : (i : ℕ) (e : Entry) (y : ℤ) → slice_get es i ≡ Some e → slice_get marks i ≡ Some true → y ≡ neg_ℤ e.lit
+      → (kept (var_of y) || used (var_of y)) ≡ true
+  flagged_neg i e y there on is = ap (λ v. kept v || used v) (ap var_of is ∙ var-neg e.lit)
+      ∙ entry_flagged vars es places marks q i e t p there on
 
   -- a used entry is implied
   implied_used : (i : ℕ) (e : Entry) → slice_get es i ≡ Some e → used (var_of e.lit) ≡ true → 0 < e.reason
@@ -71,7 +76,8 @@ module _ (vars : ℕ) (cs : List (List ℤ)) (es : List Entry) (places : List �
       r.resolved
 
   -- its reason is flagged
-  closed_used : (i : ℕ) (e : Entry) → slice_get es i ≡ Some e → used (var_of e.lit) ≡ true → (c : List ℤ) → IsNumbered cs e.reason c → IsClosed kept used c e.lit
+  closed_used : (i : ℕ) (e : Entry) → slice_get es i ≡ Some e → used (var_of e.lit) ≡ true → (c : List ℤ) → IsNumbered cs e.reason c
+      → IsClosed kept used c e.lit
   closed_used i e there u c named x d lt =
       let y : ℤ = get_or c x d in
       let r : IsUsedEntry marks q i e = used_entry vars es places marks q i e t p there u in
@@ -87,7 +93,8 @@ module _ (vars : ℕ) (cs : List (List ℤ)) (es : List Entry) (places : List �
       let marked : IsMarked cs es n q i = k.sound i (first_marked i e there r.marked up) in
       z.kept s.place (k.complete s.place (by_reason s.place i s.entry e c s.early after s.there there marked named negation)))
       (λ (none : e.level ≡ 0).
-      let h : HasPlace places c s.place = record { lit = neg_ℤ s.entry.lit; held = negation; there = place_neg vars cs es places t f p s.place s.entry s.there } in
+      let h : HasPlace places c s.place =
+      record { lit = neg_ℤ s.entry.lit; held = negation; there = place_neg vars cs es places t f p s.place s.entry s.there } in
       z.closed i e c s.place (omega arith) there none r.marked named h)
       r.resolved in
       inr (flagged_neg s.place s.entry (get_or c x d) s.there on s.is))
@@ -97,15 +104,19 @@ module _ (vars : ℕ) (cs : List (List ℤ)) (es : List Entry) (places : List �
   flagged_conflict : All (λ y. (kept (var_of y) || used (var_of y)) ≡ true) conflict.clause
   flagged_conflict x d lt =
       let holds : Contains conflict.clause (get_or conflict.clause x d) = Contains-get_or conflict.clause x d lt in
-      let r : IsNegatedBy es (get_or conflict.clause x d) = false_entry (get_or conflict.clause x d) es over (conflict.all_false x d lt) in
-      let marked : IsMarked cs es n q r.place = by_conflict r.place r.entry conflict.clause r.there conflict.numbered (subst (λ (w : ℤ). Contains conflict.clause w) r.is holds) in
+      let r : IsNegatedBy es (get_or conflict.clause x d) =
+      false_entry (get_or conflict.clause x d) es over (conflict.all_false x d lt) in
+      let marked : IsMarked cs es n q r.place =
+      by_conflict r.place r.entry conflict.clause r.there conflict.numbered (subst (λ (w : ℤ). Contains conflict.clause w) r.is holds)
+      in
       flagged_neg r.place r.entry (get_or conflict.clause x d) r.there (z.kept r.place (k.complete r.place marked)) r.is
 
   -- the line is derived
   pub Derived_kept : (line : Line) → line.clause ≡ flat_map (negation_if kept) es → line.hints ≡ flat_map (reason_if used) es ++ n ∷ [] →
       Derived (record { vars = vars; clauses = cs }) line
   Derived_kept line clause_is hints_is =
-      Derived_flags vars cs es n kept used t f (λ v h. one_flag es places marks q v h) implied_used closed_used conflict flagged_conflict line
+      Derived_flags vars cs es n kept used t f (λ v h. one_flag es places marks q v h)
+      implied_used closed_used conflict flagged_conflict line
       clause_is hints_is
 
   -- all its literals are false
@@ -144,35 +155,62 @@ module _ (vars : ℕ) (cs : List (List ℤ)) (es : List Entry) (places : List �
       there y h =
           let r : IsFromKept kept es y = there_kept kept es y h in
           let s : IsKeptEntry marks q r.place r.entry = kept_entry vars es places marks q r.place r.entry t p r.there r.passes in
-          record { place = r.place; entry = r.entry; there = r.there; within = s.within; above = s.above; marked = k.sound r.place (first_marked r.place r.entry r.there s.marked s.above); is = r.is }
+          record {
+            place = r.place;
+            entry = r.entry;
+            there = r.there;
+            within = s.within;
+            above = s.above;
+            marked = k.sound r.place (first_marked r.place r.entry r.there s.marked s.above);
+            is = r.is;
+          }
 
       back : (y : ℤ) → IsKeptAt cs es n q y → Contains (flat_map (negation_if kept) es) y
       back y h =
-          let s : IsKeptEntry marks q h.place h.entry = record { marked = z.kept h.place (k.complete h.place h.marked); within = h.within; above = h.above } in
-          subst (λ (x : ℤ). Contains (flat_map (negation_if kept) es) x) (sym h.is) (kept_there kept es h.place h.entry h.there (entry_kept vars es places marks q h.place h.entry t p h.there s))
+          let s : IsKeptEntry marks q h.place h.entry =
+          record { marked = z.kept h.place (k.complete h.place h.marked); within = h.within; above = h.above } in
+          subst (λ (x : ℤ). Contains (flat_map (negation_if kept) es) x) (sym h.is)
+          (kept_there kept es h.place h.entry h.there (entry_kept vars es places marks q h.place h.entry t p h.there s))
 
   -- the level of a literal
   level_neg : (i : ℕ) (e : Entry) → slice_get es i ≡ Some e → level_at (var_of (neg_ℤ e.lit)) es ≡ e.level
   level_neg i e there = ap (λ v. level_at v es) (var-neg e.lit) ∙ level_there es i e (λ j d at. (t j d at).fresh) there
 
   -- another kept literal is of a level up to `back`
-  other_kept : (back i : ℕ) (e : Entry) → IsBack es places q (flat_map (negation_if kept) es) back → slice_get es i ≡ Some e → i ≢ q → kept (var_of e.lit) ≡ true → e.level ≤ back
-  other_kept back i e b there ne on = b.most e.level (record { place = i; held = record { held = record { lit = neg_ℤ e.lit; held = kept_there kept es i e there on; there = place_neg vars cs es places t f p i e there }; entry = e; there = there; present = refl }; apart = ne })
+  other_kept : (back i : ℕ) (e : Entry) → IsBack es places q (flat_map (negation_if kept) es) back → slice_get es i ≡ Some e → i ≢ q
+      → kept (var_of e.lit) ≡ true → e.level ≤ back
+  other_kept back i e b there ne on =
+      b.most e.level (record {
+        place = i;
+        held = record {
+          held =
+              record { lit = neg_ℤ e.lit; held = kept_there kept es i e there on; there = place_neg vars cs es places t f p i e there };
+          entry = e;
+          there = there;
+          present = refl;
+        };
+        apart = ne;
+      })
 
   -- the line asserts
-  pub Asserts_kept : (back : ℕ) → IsBack es places q (flat_map (negation_if kept) es) back → Asserts es (flat_map (negation_if kept) es) back
+  pub Asserts_kept : (back : ℕ) → IsBack es places q (flat_map (negation_if kept) es) back
+      → Asserts es (flat_map (negation_if kept) es) back
   Asserts_kept back b = record {
     all_false = false_kept;
     front = flat_map (negation_if kept) (take q es);
     own = neg_ℤ k.lowest_is.entry.lit;
     rest = flat_map (negation_if kept) (drop (q + 1) es);
-    split = ap (flat_map (negation_if kept)) (sym whole) ∙ flat_map-append (negation_if kept) (take q es) (k.lowest_is.entry ∷ drop (q + 1) es)
-        ∙ ap (λ c. flat_map (negation_if kept) (take q es) ++ ((if c then neg_ℤ k.lowest_is.entry.lit ∷ [] else []) ++ flat_map (negation_if kept) (drop (q + 1) es))) point_kept;
+    split = ap (flat_map (negation_if kept)) (sym whole)
+        ∙ flat_map-append (negation_if kept) (take q es) (k.lowest_is.entry ∷ drop (q + 1) es)
+        ∙ ap (λ c. flat_map (negation_if kept)
+        (take q es) ++ ((if c then neg_ℤ k.lowest_is.entry.lit ∷ [] else []) ++ flat_map (negation_if kept) (drop (q + 1) es)))
+        point_kept;
     present = level_neg q k.lowest_is.entry k.lowest_is.there ∙ k.lowest_is.present;
     above = both (λ y. 0 < level_at (var_of y) es) (λ i e there ne on.
         let s : IsKeptEntry marks q i e = kept_entry vars es places marks q i e t p there on in
         subst (λ (l : ℕ). 0 < l) (sym (level_neg i e there)) s.above);
-    others = both (λ y. level_at (var_of y) es ≤ back) (λ i e there ne on. subst (λ (l : ℕ). l ≤ back) (sym (level_neg i e there)) (other_kept back i e b there ne on));
+    others = both (λ y. level_at (var_of y) es ≤ back)
+        (λ i e there ne on. subst (λ (l : ℕ). l ≤ back) (sym (level_neg i e there)) (other_kept back i e b there ne on));
     below = ⊎_elim
         (λ (none : back ≡ 0). let lt : back < level_of es = omega arith in lt)
         (λ (h : HasOther es places q (flat_map (negation_if kept) es) back). other_below h)
@@ -189,17 +227,22 @@ module _ (vars : ℕ) (cs : List (List ℤ)) (es : List Entry) (places : List �
       whole : take q es ++ k.lowest_is.entry ∷ drop (q + 1) es ≡ es
       whole =
           let lt : q < length es = inside in
-          let is : get_or es q k.lowest_is.entry ≡ k.lowest_is.entry = get_or_from_slice_get es q k.lowest_is.entry k.lowest_is.entry k.lowest_is.there in
-          ap (λ x. take q es ++ x ∷ drop (q + 1) es) (sym is) ∙ ap (λ r. take q es ++ r) (sym (drop_more es q k.lowest_is.entry lt)) ∙ take-append-drop q es
+          let is : get_or es q k.lowest_is.entry ≡ k.lowest_is.entry =
+          get_or_from_slice_get es q k.lowest_is.entry k.lowest_is.entry k.lowest_is.there in
+          ap (λ x. take q es ++ x ∷ drop (q + 1) es) (sym is) ∙ ap (λ r. take q es ++ r) (sym (drop_more es q k.lowest_is.entry lt))
+          ∙ take-append-drop q es
 
       drop_entry : (m i : ℕ) (e : Entry) → m ≤ length es → slice_get (drop m es) i ≡ Some e → slice_get es (m + i) ≡ Some e
       drop_entry m i e le there =
           let lt : i < length (drop m es) = slice_get_within (drop m es) i e there in
-          let total : length es ≡ length (take m es) + length (drop m es) = ap length (sym (take-append-drop m es)) ∙ length-append (take m es) (drop m es) in
+          let total : length es ≡ length (take m es) + length (drop m es) = ap length (sym (take-append-drop m es))
+          ∙ length-append (take m es) (drop m es) in
           let size : length (take m es) ≡ m = length-take-le m es le in
-          slice_get-get_or es (m + i) e (omega arith) ∙ ap Some (sym (get_or-drop m es i e) ∙ get_or_from_slice_get (drop m es) i e e there)
+          slice_get-get_or es (m + i) e (omega arith)
+          ∙ ap Some (sym (get_or-drop m es i e) ∙ get_or_from_slice_get (drop m es) i e e there)
 
-      both : (P : ℤ → Type 0) → ((i : ℕ) (e : Entry) → slice_get es i ≡ Some e → i ≢ q → kept (var_of e.lit) ≡ true → P (neg_ℤ e.lit)) → All P (flat_map (negation_if kept) (take q es) ++ flat_map (negation_if kept) (drop (q + 1) es))
+      both : (P : ℤ → Type 0) → ((i : ℕ) (e : Entry) → slice_get es i ≡ Some e → i ≢ q → kept (var_of e.lit) ≡ true → P (neg_ℤ e.lit))
+          → All P (flat_map (negation_if kept) (take q es) ++ flat_map (negation_if kept) (drop (q + 1) es))
       both P h = All-append P (flat_map (negation_if kept) (take q es)) (flat_map (negation_if kept) (drop (q + 1) es))
           (all_kept kept P (take q es) (λ i e there on.
           let lt : q < length es = inside in
@@ -216,39 +259,57 @@ module _ (vars : ℕ) (cs : List (List ℤ)) (es : List Entry) (places : List �
       from_other : (h : HasOther es places q (flat_map (negation_if kept) es) back) → kept (var_of h.held.entry.lit) ≡ true
       from_other h =
           let r : IsFromKept kept es h.held.held.lit = there_kept kept es h.held.held.lit h.held.held.held in
-          let same : r.place ≡ h.place = same_Some r.place h.place (sym (place_neg vars cs es places t f p r.place r.entry r.there) ∙ ap (λ y. slice_get places (var_of y)) (sym r.is) ∙ h.held.held.there) in
+          let same : r.place ≡ h.place =
+          same_Some r.place h.place
+          (sym (place_neg vars cs es places t f p r.place r.entry r.there) ∙ ap (λ y. slice_get places (var_of y)) (sym r.is)
+          ∙ h.held.held.there) in
           let is : r.entry ≡ h.held.entry = same_Some r.entry h.held.entry (sym r.there ∙ ap (slice_get es) same ∙ h.held.there) in
           ap (λ (e : Entry). kept (var_of e.lit)) (sym is) ∙ r.passes
 
       other_below : HasOther es places q (flat_map (negation_if kept) es) back → back < level_of es
       other_below h =
-          let s : IsKeptEntry marks q h.place h.held.entry = kept_entry vars es places marks q h.place h.held.entry t p h.held.there (from_other h) in
+          let s : IsKeptEntry marks q h.place h.held.entry =
+          kept_entry vars es places marks q h.place h.held.entry t p h.held.there (from_other h) in
           let le : h.held.entry.level ≤ level_of es = level_most vars es t h.place h.held.entry h.held.there in
           let is : h.held.entry.level ≡ back = h.held.present in
           let within : h.place ≤ q = s.within in
           let ne : h.place ≢ q = h.apart in
           ⊎_elim
           (λ (same : h.held.entry.level ≡ level_of es).
-          let least : q ≤ h.place = k.lowest_is.least h.place h.held.entry h.held.there same (first_marked h.place h.held.entry h.held.there s.marked s.above) in
+          let least : q ≤ h.place =
+          k.lowest_is.least h.place h.held.entry h.held.there same (first_marked h.place h.held.entry h.held.there s.marked s.above)
+          in
           absurd (omega arith))
           (λ (other : h.held.entry.level ≡ level_of es → ⊥). let lt : back < level_of es = omega arith in lt)
           (cases_eq h.held.entry.level (level_of es))
 
-      met_at : HasOther es places q (flat_map (negation_if kept) es) back → Any (λ y. level_at (var_of y) es ≡ back) (flat_map (negation_if kept) es)
+      met_at : HasOther es places q (flat_map (negation_if kept) es) back
+          → Any (λ y. level_at (var_of y) es ≡ back) (flat_map (negation_if kept) es)
       met_at h =
           let c : Contains (flat_map (negation_if kept) es) h.held.held.lit = h.held.held.held in
           let r : IsFromKept kept es h.held.held.lit = there_kept kept es h.held.held.lit c in
-          let same : r.place ≡ h.place = same_Some r.place h.place (sym (place_neg vars cs es places t f p r.place r.entry r.there) ∙ ap (λ y. slice_get places (var_of y)) (sym r.is) ∙ h.held.held.there) in
-          let is : r.entry ≡ h.held.entry = same_Some r.entry h.held.entry (sym r.there ∙ ap (slice_get es) same ∙ h.held.there) in
-          (c.0, h.held.held.lit, c.1, c.2, ap (λ y. level_at (var_of y) es) r.is ∙ level_neg r.place r.entry r.there ∙ ap (λ (e : Entry). e.level) is ∙ h.held.present)
+          let same : r.place ≡ h.place =
+          same_Some r.place h.place
+          (sym (place_neg vars cs es places t f p r.place r.entry r.there) ∙ ap (λ y. slice_get places (var_of y)) (sym r.is)
+          ∙ h.held.held.there) in
+          let is : r.entry ≡ h.held.entry = same_Some r.entry h.held.entry (sym r.there ∙ ap (slice_get es) same ∙ h.held.there) in (
+            c.0,
+            h.held.held.lit,
+            c.1,
+            c.2,
+            ap (λ y. level_at (var_of y) es) r.is ∙ level_neg r.place r.entry r.there
+                ∙ ap (λ (e : Entry). e.level) is ∙ h.held.present,
+          )
 
 -- entries from the point on are above level 0
-pub begun_at : (vars : ℕ) (cs : List (List ℤ)) (es : List Entry) (n q : ℕ) (marks : List Bool) → IsTrail vars es → IsAtPlace cs es n q marks q → 0 < level_of es → (i : ℕ) (e : Entry) → q ≤ i → slice_get es i ≡ Some e → 0 < e.level
+pub begun_at : (vars : ℕ) (cs : List (List ℤ)) (es : List Entry) (n q : ℕ) (marks : List Bool) → IsTrail vars es
+    → IsAtPlace cs es n q marks q → 0 < level_of es → (i : ℕ) (e : Entry) → q ≤ i → slice_get es i ≡ Some e → 0 < e.level
 begun_at vars cs es n q marks t k above i e le there =
     let low : IsLowest es marks q = k.lowest_is in
     let is : low.entry.level ≡ level_of es = low.present in
     ⊎_elim
-    (λ (lt : q < i). let rises : low.entry.level ≤ e.level = level_rises es (IsTrail-levelled vars es t) q i low.entry e lt low.there there in let up : 0 < e.level = omega arith in up)
+    (λ (lt : q < i). let rises : low.entry.level ≤ e.level =
+    level_rises es (IsTrail-levelled vars es t) q i low.entry e lt low.there there in let up : 0 < e.level = omega arith in up)
     (λ (ge : i ≤ q).
     let same : i ≡ q = omega arith in
     let own : e ≡ low.entry = same_Some e low.entry (sym there ∙ ap (slice_get es) same ∙ low.there) in

@@ -26,7 +26,9 @@ module _ (vars : ℕ) (cs : List (List ℤ)) (es : List Entry) (places : List �
   place_neg i e there = ap (slice_get places) (var-neg e.lit) ∙ p.told i e there
 
   -- a false clause of the list has a literal of the present level
-  pub present_there : (n : ℕ) (clause : List ℤ) → AreSettledBelow cs es → 0 < level_of es → IsNumbered cs n clause → IsFalse (lits_of es) clause → ((z : ℤ) (i : ℕ) (e : Entry) → Contains clause z → slice_get es i ≡ Some e → z ≡ neg_ℤ e.lit → e.level ≢ level_of es) → ⊥
+  pub present_there : (n : ℕ) (clause : List ℤ) → AreSettledBelow cs es → 0 < level_of es → IsNumbered cs n clause
+      → IsFalse (lits_of es) clause
+      → ((z : ℤ) (i : ℕ) (e : Entry) → Contains clause z → slice_get es i ≡ Some e → z ≡ neg_ℤ e.lit → e.level ≢ level_of es) → ⊥
   present_there n clause settled above named all_false none = ⊎_elim
       (λ (h : IsSatisfied (lits_of (up_to low es)) clause).
       let v : value_of h.lit (up_to low es) ≡ Some true = h.holds in
@@ -47,23 +49,36 @@ module _ (vars : ℕ) (cs : List (List ℤ)) (es : List Entry) (places : List �
           let holds : Contains clause z = (k, lt, get_or_from_slice_get clause k z z at) in
           let v : value_of z es ≡ Some false = All-contains (λ y. value_of y es ≡ Some false) clause z all_false holds in
           let r : IsNegatedBy es z = false_entry z es (λ i e there. (t i e there).above) v in
-          let level : level_at (var_of z) es ≡ r.entry.level = ap (λ y. level_at (var_of y) es) r.is ∙ ap (λ w. level_at w es) (var-neg r.entry.lit) ∙ level_there es r.place r.entry (λ i e there. (t i e there).fresh) r.there in
+          let level : level_at (var_of z) es ≡ r.entry.level = ap (λ y. level_at (var_of y) es) r.is
+          ∙ ap (λ w. level_at w es) (var-neg r.entry.lit)
+          ∙ level_there es r.place r.entry (λ i e there. (t i e there).fresh) r.there in
           let most : r.entry.level ≤ level_of es = level_most vars es t r.place r.entry r.there in
           let ne : r.entry.level ≢ level_of es = none z r.place r.entry holds r.there r.is in
           let le : level_at (var_of z) es ≤ level_of es - 1 = omega arith in
           value-kept z (level_of es - 1) es (trail-apart vars es t) le ∙ v
 
   -- the marks of the conflict
-  pub at_last : (n count : ℕ) (clause : List ℤ) (blank marks : List Bool) (lowest : ℕ) → AreSettledBelow cs es → 0 < level_of es → 0 < length es → IsNumbered cs n clause → IsFalse (lits_of es) clause → blank ≡ replicate count false → Marks places clause blank marks → Lowers es places (level_of es) clause (length es) lowest → IsAtPlace cs es n (length es - 1) marks lowest
+  pub at_last : (n count : ℕ) (clause : List ℤ) (blank marks : List Bool) (lowest : ℕ) → AreSettledBelow cs es → 0 < level_of es
+      → 0 < length es → IsNumbered cs n clause → IsFalse (lits_of es) clause → blank ≡ replicate count false
+      → Marks places clause blank marks → Lowers es places (level_of es) clause (length es) lowest
+      → IsAtPlace cs es n (length es - 1) marks lowest
   at_last n count clause blank marks lowest settled above some named all_false blank_is m l =
       let k : IsLowest es marks lowest = ⊎_elim
       (λ (same : lowest ≡ length es). absurd (present_there n clause settled above named all_false (λ z i e holds there is present.
-      let at : HasPlaceAt es places (level_of es) clause i = record { held = has z i e holds there is; entry = e; there = there; present = present } in
+      let at : HasPlaceAt es places (level_of es) clause i =
+      record { held = has z i e holds there is; entry = e; there = there; present = present } in
       let le : lowest ≤ i = l.least i at in
       let lt : i < length es = slice_get_within es i e there in
       absurd (omega arith))))
       (λ (h : HasPlaceAt es places (level_of es) clause lowest).
-      let r : IsLowest es marks lowest = record { entry = h.entry; there = h.there; present = h.present; marked = m.held lowest h.held; least = λ i e there present on. l.least i (record { held = held i on; entry = e; there = there; present = present }) } in r)
+      let r : IsLowest es marks lowest =
+      record {
+        entry = h.entry;
+        there = h.there;
+        present = h.present;
+        marked = m.held lowest h.held;
+        least = λ i e there present on. l.least i (record { held = held i on; entry = e; there = there; present = present });
+      } in r)
       l.own in
       let inside : lowest < length es = slice_get_within es lowest k.entry k.there in
       record {
@@ -72,8 +87,11 @@ module _ (vars : ℕ) (cs : List (List ℤ)) (es : List Entry) (places : List �
             let h : HasPlace places clause i = held i on in
             let v : value_of h.lit es ≡ Some false = All-contains (λ y. value_of y es ≡ Some false) clause h.lit all_false h.held in
             let r : IsNegatedBy es h.lit = false_entry h.lit es (λ i e there. (t i e there).above) v in
-            let same : r.place ≡ i = same_Some r.place i (sym (place_neg r.place r.entry r.there) ∙ ap (λ y. slice_get places (var_of y)) (sym r.is) ∙ h.there) in
-            by_conflict i r.entry clause (ap (slice_get es) (sym same) ∙ r.there) named (subst (λ (y : ℤ). Contains clause y) r.is h.held);
+            let same : r.place ≡ i =
+            same_Some r.place i (sym (place_neg r.place r.entry r.there) ∙ ap (λ y. slice_get places (var_of y)) (sym r.is) ∙ h.there)
+            in
+            by_conflict i r.entry clause (ap (slice_get es) (sym same) ∙ r.there) named
+            (subst (λ (y : ℤ). Contains clause y) r.is h.held);
         complete = λ i marked. complete marked;
         lowest_is = k;
         low = omega arith;
@@ -85,7 +103,8 @@ module _ (vars : ℕ) (cs : List (List ℤ)) (es : List Entry) (places : List �
 
       held : (i : ℕ) → slice_get marks i ≡ Some true → HasPlace places clause i
       held i on = ⊎_elim
-          (λ (before : slice_get blank i ≡ Some true). absurd (none_blank count i (ap (λ (xs : List Bool). slice_get xs i) (sym blank_is) ∙ before)))
+          (λ (before : slice_get blank i ≡ Some true).
+          absurd (none_blank count i (ap (λ (xs : List Bool). slice_get xs i) (sym blank_is) ∙ before)))
           (λ (h : HasPlace places clause i). h)
           (m.only i on)
 
@@ -93,4 +112,5 @@ module _ (vars : ℕ) (cs : List (List ℤ)) (es : List Entry) (places : List �
       complete (by_conflict i e c there name holds) =
           let is : c ≡ clause = same_Some c clause (sym name.there ∙ named.there) in
           m.held i (has (neg_ℤ e.lit) i e (subst (λ (x : List ℤ). Contains x (neg_ℤ e.lit)) is holds) there refl)
-      complete (by_reason i j e d c lt after there at marked name holds) = let inside : j < length es = slice_get_within es j d at in absurd (omega arith)
+      complete (by_reason i j e d c lt after there at marked name holds) = let inside : j < length es = slice_get_within es j d at in
+          absurd (omega arith)

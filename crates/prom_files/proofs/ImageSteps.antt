@@ -35,7 +35,8 @@ had_none out bits shelf = record {
 
 -- one more image is had
 had_more : (out : List ℕ) (bits count : ℕ) (old mid new : ShelfState) (images : List Image) (image : Image)
-    → AreHad out bits count old mid images → HasImage (image_name out count) bits mid new image → AreHad out bits (suc count) old new (images ++ image ∷ [])
+    → AreHad out bits count old mid images → HasImage (image_name out count) bits mid new image
+    → AreHad out bits (suc count) old new (images ++ image ∷ [])
 had_more out bits count old mid new images image had one = record {
   all = length-append images (image ∷ []) ∙ omega (arith, had.all);
   each = each;
@@ -47,7 +48,8 @@ had_more out bits count old mid new images image had one = record {
     there = record {
       bytes = one.bytes;
       fits = one.file.fits;
-      told = λ tells. sym (ap (λ file. file (image_name out count)) had.same) ∙ one.file.told (subst IsTrue (sym had.goes_on.tells) tells);
+      told = λ tells. sym (ap (λ file. file (image_name out count)) had.same)
+          ∙ one.file.told (subst IsTrue (sym had.goes_on.tells) tells);
       shown = one.shown;
     }
 
@@ -62,7 +64,8 @@ had_more out bits count old mid new images image had one = record {
             subst P (sym (last.0 ∙ had.all)) (subst Q (sym last.1) there)
 
 -- images that were loaded one after the other are had
-pub images_had : (out : List ℕ) (bits count : ℕ) (old new : ShelfState) (images : List Image) → HasImages out bits count old new images → AreHad out bits count old new images
+pub images_had : (out : List ℕ) (bits count : ℕ) (old new : ShelfState) (images : List Image) → HasImages out bits count old new images
+    → AreHad out bits count old new images
 images_had out bits zero old new images has =
     let P : ShelfState → Type 0 = λ shelf. AreHad out bits 0 old shelf images in
     let Q : List Image → Type 0 = λ some. AreHad out bits 0 old old some in
@@ -72,12 +75,14 @@ images_had out bits (suc count) old new images (mid, earlier, last, had, one, is
     subst P (sym is) (had_more out bits count old mid new earlier last (images_had out bits count old mid earlier had) one)
 
 -- before the first image
-pub HasImages-none : (out : List ℕ) (bits : ℕ) (shelf : ShelfState) (images : List Image) → images ≡ [] → HasImages out bits 0 shelf shelf images
+pub HasImages-none : (out : List ℕ) (bits : ℕ) (shelf : ShelfState) (images : List Image) → images ≡ []
+    → HasImages out bits 0 shelf shelf images
 HasImages-none out bits shelf images none = (refl, none)
 
 -- one more image
 pub HasImages-push : (out : List ℕ) (bits count : ℕ) (old mid new : ShelfState) (images : List Image) (image : Image)
-    → HasImages out bits count old mid images → HasImage (image_name out count) bits mid new image → HasImages out bits (count + 1) old new (images ++ image ∷ [])
+    → HasImages out bits count old mid images → HasImage (image_name out count) bits mid new image
+    → HasImages out bits (count + 1) old new (images ++ image ∷ [])
 HasImages-push out bits count old mid new images image had one =
     let P : ℕ → Type 0 = λ n. HasImages out bits n old new (images ++ image ∷ []) in
     let next : suc count ≡ count + 1 = omega arith in
@@ -85,7 +90,8 @@ HasImages-push out bits count old mid new images image had one =
 
 -- an image that is not had stops the reading of all
 pub ImagesReply-stop : (out : List ℕ) (bits count number : ℕ) (old mid new : ShelfState) (images : List Image) → number < count
-    → HasImages out bits number old mid images → (x : Stop) → StopsBy (ImageReply (image_name out number) bits mid new) x → StopsBy (ImagesReply out bits count old new) x
+    → HasImages out bits number old mid images → (x : Stop) → StopsBy (ImageReply (image_name out number) bits mid new) x
+    → StopsBy (ImagesReply out bits count old new) x
 ImagesReply-stop out bits count number old mid new images below had =
     StopsBy-map (ImageReply (image_name out number) bits mid new) (ImagesReply out bits count old new)
     (λ s text reply. record { number = number; below = below; images = images; mid = mid; earlier = had; reply = reply })

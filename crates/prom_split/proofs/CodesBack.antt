@@ -28,7 +28,8 @@ jump_with code operand = record { code = code; operand = operand }
 pub jump_back : (jump : JumpWord) → IsJump jump → jump_at (ac_of jump) ≡ jump
 jump_back jump h =
     let code : code_at (first_ac jump.code + jump.operand) ≡ jump.code = code_back jump.code jump.operand h in
-    let operand : first_ac jump.code + jump.operand - first_ac (code_at (first_ac jump.code + jump.operand)) ≡ jump.operand = rw code (omega arith) in
+    let operand : first_ac jump.code + jump.operand - first_ac (code_at (first_ac jump.code + jump.operand)) ≡ jump.operand =
+    rw code (omega arith) in
     ap₂ jump_with code operand
 
 input_back : (input : FlagIn) → input_at (input_bits input) ≡ input

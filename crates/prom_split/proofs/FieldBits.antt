@@ -31,10 +31,15 @@ sized_is : (field : Field) → is_sized field ≡ true → Sized field
 sized_is field h =
     let sized = and_parts (nat_le 1 field.width && nat_le field.width 32) (nat_lt field.default (2 ^ field.width)) h in
     let wide = and_parts (nat_le 1 field.width) (nat_le field.width 32) sized.0 in
-    record { some = leb-true 1 field.width wide.0; most = leb-true field.width 32 wide.1; default = ltb-true field.default (2 ^ field.width) sized.1 }
+    record {
+      some = leb-true 1 field.width wide.0;
+      most = leb-true field.width 32 wide.1;
+      default = ltb-true field.default (2 ^ field.width) sized.1;
+    }
 
 -- each of the fields is sized
-pub sized_at : (fields : List Field) (place : ℕ) (field : Field) → list_all is_sized fields ≡ true → slice_get fields place ≡ Some field → Sized field
+pub sized_at : (fields : List Field) (place : ℕ) (field : Field) → list_all is_sized fields ≡ true → slice_get fields place ≡ Some field
+    → Sized field
 sized_at [] place field h at = absurd (cc at)
 sized_at (f ∷ fields) zero field h at =
     let same : f ≡ field = cc in
@@ -49,8 +54,10 @@ pub record Turned (fields : List Field) (values : List ℕ) (place number : ℕ)
   pub value : number ≡ joined (drop place fields) (drop place values)
   pub below : number < 2 ^ widths (drop place fields)
 
-widths_at : (fields : List Field) (place : ℕ) (field : Field) → slice_get fields place ≡ Some field → widths (drop place fields) ≡ field.width + widths (drop (suc place) fields)
-widths_at fields place field at = ap widths (drop_at fields place field at) ∙ sum_by-cons (λ (f : Field). f.width) field (drop (suc place) fields)
+widths_at : (fields : List Field) (place : ℕ) (field : Field) → slice_get fields place ≡ Some field
+    → widths (drop place fields) ≡ field.width + widths (drop (suc place) fields)
+widths_at fields place field at = ap widths (drop_at fields place field at)
+    ∙ sum_by-cons (λ (f : Field). f.width) field (drop (suc place) fields)
 
 widths_drop : (fields : List Field) (place : ℕ) → widths (drop place fields) ≤ widths fields
 widths_drop [] zero = omega arith
@@ -60,7 +67,8 @@ widths_drop (f ∷ fields) (suc place) = omega (arith, widths_drop fields place,
 
 -- the value of one more field
 pub joined_turn : (fields : List Field) (values : List ℕ) (place number : ℕ) (field : Field) (value : ℕ)
-    → AreValues fields values → widths fields ≤ 96 → slice_get fields place ≡ Some field → slice_get values place ≡ Some value → Turned fields values (suc place) number
+    → AreValues fields values → widths fields ≤ 96 → slice_get fields place ≡ Some field → slice_get values place ≡ Some value
+    → Turned fields values (suc place) number
     → Turned fields values place (number * 2 ^ field.width % 340282366920938463463374607431768211456 + value)
 unfolding joined
 joined_turn fields values place number field value held narrow at here t =
@@ -69,7 +77,8 @@ joined_turn fields values place number field value held narrow at here t =
     let all : widths (drop place fields) ≡ w + rest = widths_at fields place field at in
     let less : widths (drop place fields) ≤ widths fields = widths_drop fields place in
     let power : 2 ^ widths (drop place fields) ≡ 2 ^ w * 2 ^ rest = ap (λ (n : ℕ). 2 ^ n) all ∙ pow-add 2 w rest in
-    let below : number * 2 ^ w + value < 2 ^ w * 2 ^ rest = bound number value (2 ^ w) (2 ^ rest) t.below (held.held place value field at here) in
+    let below : number * 2 ^ w + value < 2 ^ w * 2 ^ rest =
+    bound number value (2 ^ w) (2 ^ rest) t.below (held.held place value field at here) in
     let narrower : widths (drop place fields) ≤ 96 = omega arith in
     let small : 2 ^ widths (drop place fields) ≤ 2 ^ 96 = pow-le-pow_right (omega arith) narrower in
     let whole : number * 2 ^ w % 340282366920938463463374607431768211456 ≡ number * 2 ^ w = mod-eq_of_lt (omega arith) in
@@ -79,7 +88,8 @@ joined_turn fields values place number field value held narrow at here t =
     }
 
 -- such a number fits
-pub turned_fits : (fields : List Field) (values : List ℕ) (place number : ℕ) → widths fields ≤ 96 → Turned fields values place number → number < 340282366920938463463374607431768211456
+pub turned_fits : (fields : List Field) (values : List ℕ) (place number : ℕ) → widths fields ≤ 96 → Turned fields values place number
+    → number < 340282366920938463463374607431768211456
 turned_fits fields values place number narrow t =
     let less : widths (drop place fields) ≤ widths fields = widths_drop fields place in
     let narrower : widths (drop place fields) ≤ 96 = omega arith in
@@ -88,17 +98,20 @@ turned_fits fields values place number narrow t =
 
 -- one turn of the loop
 pub joined_step : (fields : List Field) (values : List ℕ) (place here number : ℕ) (field : Field) (width value : ℕ)
-    → AreValues fields values → widths fields ≤ 96 → slice_get fields here ≡ Some field → place ≡ suc here → width ≡ field.width → value ≡ get_or values here 0 → Turned fields values place number
+    → AreValues fields values → widths fields ≤ 96 → slice_get fields here ≡ Some field → place ≡ suc here → width ≡ field.width
+    → value ≡ get_or values here 0 → Turned fields values place number
     → Turned fields values here (number * 2 ^ width % 340282366920938463463374607431768211456 + value)
 joined_step fields values place here number field width value held narrow at e w v t =
     let within : here < length values = omega (arith, slice_get_within fields here field at, held.value_for_each) in
     let before : Turned fields values (suc here) number = subst (λ (i : ℕ). Turned fields values i number) e t in
-    rw (w, v) (joined_turn fields values here number field (get_or values here 0) held narrow at (slice_get-get_or values here 0 within) before)
+    rw (w, v) (joined_turn fields values here number field (get_or values here 0) held narrow at (slice_get-get_or values here 0 within)
+    before)
 
 -- past the last field there is nothing
 pub turned_none : (fields : List Field) (values : List ℕ) (place : ℕ) → place ≡ length fields → Turned fields values place 0
 unfolding joined
-turned_none fields values place e = record { value = rw (drop_all place fields (omega arith)); below = rw (drop_all place fields (omega arith)) (omega arith) }
+turned_none fields values place e =
+    record { value = rw (drop_all place fields (omega arith)); below = rw (drop_all place fields (omega arith)) (omega arith) }
 
 -- ---- taking apart, from the first field up
 
@@ -107,7 +120,8 @@ pub record Taken (fields : List Field) (number : ℕ) (values : List ℕ) (place
   pub count : length values ≡ place
   pub taken : taken_apart fields number ≡ values ++ taken_apart (drop place fields) rest
 
-pub taken_turn : (fields : List Field) (number : ℕ) (values : List ℕ) (place rest : ℕ) (field : Field) → slice_get fields place ≡ Some field → Taken fields number values place rest
+pub taken_turn : (fields : List Field) (number : ℕ) (values : List ℕ) (place rest : ℕ) (field : Field)
+    → slice_get fields place ≡ Some field → Taken fields number values place rest
     → Taken fields number (values ++ rest % 2 ^ field.width ∷ []) (place + 1) (rest / 2 ^ field.width)
 unfolding taken_apart
 taken_turn fields number values place rest field at t = record {
@@ -119,7 +133,8 @@ taken_turn fields number values place rest field at t = record {
     length_push [] x = refl
     length_push (y ∷ xs) x = omega (arith, length_push xs x)
 
-pub taken_end : (fields : List Field) (number : ℕ) (values : List ℕ) (place rest : ℕ) → length fields ≤ place → Taken fields number values place rest → values ≡ taken_apart fields number
+pub taken_end : (fields : List Field) (number : ℕ) (values : List ℕ) (place rest : ℕ) → length fields ≤ place
+    → Taken fields number values place rest → values ≡ taken_apart fields number
 unfolding taken_apart
 taken_end fields number values place rest h t = sym (t.taken ∙ rw (drop_all place fields h) (append-nil values))
 
@@ -132,15 +147,23 @@ low_fits number width most below =
 -- ---- the defaults
 
 -- the defaults so far are few
-pub defaults_few : (fields : List Field) (place : ℕ) (values : List ℕ) → list_all is_sized fields ≡ true → widths fields ≤ 78 → place < length fields → values ≡ defaults_of (take place fields) → length values < 80
+pub defaults_few : (fields : List Field) (place : ℕ) (values : List ℕ) → list_all is_sized fields ≡ true → widths fields ≤ 78
+    → place < length fields → values ≡ defaults_of (take place fields) → length values < 80
 defaults_few fields place values sized narrow within e =
-    omega (arith, ap length e, length-map (take place fields) (λ (f : Field). f.default), length-take place fields, few_fields fields sized)
+    omega (
+      arith,
+      ap length e,
+      length-map (take place fields) (λ (f : Field). f.default),
+      length-take place fields,
+      few_fields fields sized,
+    )
 
 defaults_length : (fields : List Field) → length (defaults_of fields) ≡ length fields
 defaults_length [] = refl
 defaults_length (f ∷ fields) = omega (arith, defaults_length fields)
 
-defaults_at : (fields : List Field) (place value : ℕ) (field : Field) → slice_get fields place ≡ Some field → slice_get (defaults_of fields) place ≡ Some value → value ≡ field.default
+defaults_at : (fields : List Field) (place value : ℕ) (field : Field) → slice_get fields place ≡ Some field
+    → slice_get (defaults_of fields) place ≡ Some value → value ≡ field.default
 defaults_at [] place value field at here = absurd (cc at)
 defaults_at (f ∷ fields) zero value field at here = cc
 defaults_at (f ∷ fields) (suc place) value field at here = defaults_at fields place value field at here
@@ -149,5 +172,6 @@ defaults_at (f ∷ fields) (suc place) value field at here = defaults_at fields 
 pub defaults_held : (fields : List Field) → list_all is_sized fields ≡ true → AreValues fields (defaults_of fields)
 defaults_held fields sized = record {
   value_for_each = defaults_length fields;
-  held = λ place value field at here. let e = defaults_at fields place value field at here in omega (arith, e, (sized_at fields place field sized at).default);
+  held = λ place value field at here. let e = defaults_at fields place value field at here in
+      omega (arith, e, (sized_at fields place field sized at).default);
 }

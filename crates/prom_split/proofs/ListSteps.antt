@@ -12,7 +12,8 @@ pub some_back : {X : Type 0} (a b : X) → Some a ≡ Some b → a ≡ b
 some_back a b e = cc
 
 -- an element of a list with one more at its end: it stood before, or is the added one
-pub element_cases : {X : Type 0} → (xs : List X) (y : X) (i : ℕ) (x : X) → slice_get (xs ++ y ∷ []) i ≡ Some x → (slice_get xs i ≡ Some x) ⊎ ((i ≡ length xs) × (x ≡ y))
+pub element_cases : {X : Type 0} → (xs : List X) (y : X) (i : ℕ) (x : X) → slice_get (xs ++ y ∷ []) i ≡ Some x
+    → (slice_get xs i ≡ Some x) ⊎ ((i ≡ length xs) × (x ≡ y))
 element_cases [] y zero x at = inr (refl, sym (some_back y x at))
 element_cases [] y (suc i) x at = absurd (cc at)
 element_cases (z ∷ xs) y zero x at = inl at

@@ -17,7 +17,8 @@ low_of : (a w r : ℕ) → a < w → (a + w * r) % w ≡ a
 low_of a w r h = add-mul-mod_self_left a w r ∙ mod-eq_of_lt h
 
 -- the values without the first
-rest_held : (field : Field) (fields : List Field) (value : ℕ) (values : List ℕ) → AreValues (field ∷ fields) (value ∷ values) → AreValues fields values
+rest_held : (field : Field) (fields : List Field) (value : ℕ) (values : List ℕ) → AreValues (field ∷ fields) (value ∷ values)
+    → AreValues fields values
 rest_held field fields value values h = record {
   value_for_each = omega (arith, h.value_for_each);
   held = λ place v f at here. h.held (suc place) v f at here;
@@ -28,7 +29,11 @@ unfolding taken_apart joined
 taken_joined [] [] h = refl
 taken_joined (field ∷ fields) (value ∷ values) h =
     let below : value < 2 ^ field.width = h.held 0 value field refl refl in
-    rw (low_of value (2 ^ field.width) (joined fields values) below, high_of value (2 ^ field.width) (joined fields values) below, taken_joined fields values (rest_held field fields value values h))
+    rw (
+      low_of value (2 ^ field.width) (joined fields values) below,
+      high_of value (2 ^ field.width) (joined fields values) below,
+      taken_joined fields values (rest_held field fields value values h),
+    )
 taken_joined [] (value ∷ values) h = absurd (omega (arith, h.value_for_each))
 taken_joined (field ∷ fields) [] h = absurd (omega (arith, h.value_for_each))
 
@@ -48,8 +53,13 @@ func_is a f u x h g e = omega arith
 above_is : (a f u x : ℕ) → a < 128 → f < 16 → u < 128 → (a + 2 ^ 7 * f + 2 ^ 11 * u + 2 ^ 18 * x) / 2 ^ 18 ≡ x
 above_is a f u x h g e = omega arith
 
-fields_are : (a f u k n r : ℕ) → a < 128 → f < 16 → u < 128 → k < 2 ^ n → (a + 2 ^ 7 * f + 2 ^ 11 * u + 2 ^ 18 * (k + 2 ^ n * r)) / (2 ^ 18 * 2 ^ n) ≡ r
-fields_are a f u k n r h g e p = rw (← div-div-eq-div-mul (a + 2 ^ 7 * f + 2 ^ 11 * u + 2 ^ 18 * (k + 2 ^ n * r)) (2 ^ 18) (2 ^ n), above_is a f u (k + 2 ^ n * r) h g e) (high_of k (2 ^ n) r p)
+fields_are : (a f u k n r : ℕ) → a < 128 → f < 16 → u < 128 → k < 2 ^ n
+    → (a + 2 ^ 7 * f + 2 ^ 11 * u + 2 ^ 18 * (k + 2 ^ n * r)) / (2 ^ 18 * 2 ^ n) ≡ r
+fields_are a f u k n r h g e p =
+    rw (
+      ← div-div-eq-div-mul (a + 2 ^ 7 * f + 2 ^ 11 * u + 2 ^ 18 * (k + 2 ^ n * r)) (2 ^ 18) (2 ^ n),
+      above_is a f u (k + 2 ^ n * r) h g e,
+    ) (high_of k (2 ^ n) r p)
 
 pub parts_back : (decl : Declaration) (parts : WordParts) → FitParts decl parts → parts_of decl (word_by decl parts) ≡ parts
 unfolding word_by parts_of
@@ -64,7 +74,8 @@ parts_back decl parts h =
       fc_is (ac_of parts.jump) (fc_of parts.ctl) parts.func rest ac fc,
       func_is (ac_of parts.jump) (fc_of parts.ctl) parts.func rest ac fc h.func,
       above_is (ac_of parts.jump) (fc_of parts.ctl) parts.func rest ac fc h.func,
-      fields_are (ac_of parts.jump) (fc_of parts.ctl) parts.func parts.kbits decl.kbus (joined decl.fields parts.values) ac fc h.func h.kbits,
+      fields_are (ac_of parts.jump) (fc_of parts.ctl) parts.func parts.kbits decl.kbus (joined decl.fields parts.values)
+          ac fc h.func h.kbits,
       low_of parts.kbits (2 ^ decl.kbus) (joined decl.fields parts.values) h.kbits,
       taken_joined decl.fields parts.values h.values,
       jump_back parts.jump h.jump,

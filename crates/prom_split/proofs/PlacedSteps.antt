@@ -13,11 +13,13 @@ use Rattle.prom_split.specs.Microword.{IsWordOf, IsInstrWord, word_at, word_with
 use Rattle.prom_split.proofs.ListSteps.{length_push, number_before, number_last, some_back}
 
 -- the word at a label's cell
-pub word_of_label : (g : Graph) (place : List Position) (label : ℕ) (instr : Instr) (cell : Position) (jump : JumpWord) (word : ℕ) → IsLegal g place → slice_get g.instrs label ≡ Some instr → slice_get place label ≡ Some cell
+pub word_of_label : (g : Graph) (place : List Position) (label : ℕ) (instr : Instr) (cell : Position) (jump : JumpWord) (word : ℕ)
+    → IsLegal g place → slice_get g.instrs label ≡ Some instr → slice_get place label ≡ Some cell
     → IsJumpOf place instr cell jump → word ≡ word_with g.decl (Some instr) jump → IsWordOf g place cell word
 word_of_label g place label instr cell jump word legal here at is e = record { label = one; free = λ free. absurd (free label at) }
   where
-    one : (other : ℕ) (x : Instr) → slice_get g.instrs other ≡ Some x → slice_get place other ≡ Some cell → IsInstrWord g place x cell word
+    one : (other : ℕ) (x : Instr) → slice_get g.instrs other ≡ Some x → slice_get place other ≡ Some cell
+        → IsInstrWord g place x cell word
     one other x there cell_there =
         let same : other ≡ label = legal.cells_differ other label cell cell_there at in
         let instrs : instr ≡ x = some_back instr x (sym here ∙ ap (slice_get g.instrs) (sym same) ∙ there) in
@@ -37,14 +39,16 @@ pub record Placed (g : Graph) (place : List Position) (count : ℕ) (words : Lis
   pub each : (cell : Position) → IsCell cell → address_of cell < count → IsWordOf g place cell (word_at words cell)
 
 -- the word of one more cell
-pub placed_push : (g : Graph) (place : List Position) (count : ℕ) (words : List ℕ) (cell : Position) (word : ℕ) → Placed g place count words → IsCell cell → address_of cell ≡ count → IsWordOf g place cell word → word < 2 ^ width_of g.decl
+pub placed_push : (g : Graph) (place : List Position) (count : ℕ) (words : List ℕ) (cell : Position) (word : ℕ)
+    → Placed g place count words → IsCell cell → address_of cell ≡ count → IsWordOf g place cell word → word < 2 ^ width_of g.decl
     → Placed g place (count + 1) (words ++ word ∷ [])
 placed_push g place count words cell word p in_matrix here is below = record {
   many = omega (arith, length_push words word, p.many);
   fit = All-push (λ x. x < 2 ^ width_of g.decl) words word p.fit below;
   each = λ other within lt. elim (cases_lt (address_of other) count) [
     | inl before ↦
-        subst (λ (x : ℕ). IsWordOf g place other x) (sym (number_before words word (address_of other) (omega (arith, p.many)))) (p.each other within before)
+        subst (λ (x : ℕ). IsWordOf g place other x) (sym (number_before words word (address_of other) (omega (arith, p.many))))
+        (p.each other within before)
     | inr after ↦
         (let address : address_of cell ≡ address_of other = omega arith in
         let same : cell ≡ other = same_cell cell other in_matrix within address in

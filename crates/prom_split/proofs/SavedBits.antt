@@ -42,11 +42,14 @@ letter_at (suc n) word bit lt = elim (cases_lt bit n) [
 ]
 
 -- the letter in its frame
-letter_in_frame : (bits word bit : ℕ) → bit < bits → slice_get (frame bits word ++ 10 ∷ []) (1 + (bits - 1 - bit)) ≡ Some (letter (bit_at word bit))
+letter_in_frame : (bits word bit : ℕ) → bit < bits
+    → slice_get (frame bits word ++ 10 ∷ []) (1 + (bits - 1 - bit)) ≡ Some (letter (bit_at word bit))
 letter_in_frame bits word bit lt =
     let within : bits - 1 - bit < length (letters_of bits word) = omega (arith, length-letters_of bits word) in
-    let inner : slice_get ((letters_of bits word ++ 70 ∷ []) ++ 10 ∷ []) (bits - 1 - bit) ≡ slice_get (letters_of bits word) (bits - 1 - bit) =
-    get_left (letters_of bits word ++ 70 ∷ []) (10 ∷ []) (bits - 1 - bit) (more (letters_of bits word) (bits - 1 - bit) within) ∙ get_left (letters_of bits word) (70 ∷ []) (bits - 1 - bit) within in
+    let inner : slice_get ((letters_of bits word ++ 70 ∷ []) ++ 10 ∷ []) (bits - 1 - bit) ≡ slice_get (letters_of bits word)
+    (bits - 1 - bit) =
+    get_left (letters_of bits word ++ 70 ∷ []) (10 ∷ []) (bits - 1 - bit) (more (letters_of bits word) (bits - 1 - bit) within)
+    ∙ get_left (letters_of bits word) (70 ∷ []) (bits - 1 - bit) within in
     let place : 1 + (bits - 1 - bit) ≡ suc (bits - 1 - bit) = omega arith in
     ap (slice_get (frame bits word ++ 10 ∷ [])) place ∙ inner ∙ letter_at bits word bit lt
   where
@@ -77,9 +80,11 @@ frame_at bits (word ∷ words) zero place lt small =
     ∙ ap (λ (text : List ℕ). slice_get text place) (append_one (frame bits word) (frames_of bits words))
     ∙ get_left (frame bits word ++ 10 ∷ []) (frames_of bits words) place (omega (arith, frame_length bits word))
 frame_at bits (word ∷ words) (suc address) place lt small =
-    let e : suc address * (bits + 3) + place ≡ length (frame bits word ++ 10 ∷ []) + (address * (bits + 3) + place) = omega (arith, frame_length bits word) in
+    let e : suc address * (bits + 3) + place ≡ length (frame bits word ++ 10 ∷ []) + (address * (bits + 3) + place) =
+    omega (arith, frame_length bits word) in
     ap (slice_get (frame bits word ++ 10 ∷ frames_of bits words)) e
-    ∙ ap (λ (text : List ℕ). slice_get text (length (frame bits word ++ 10 ∷ []) + (address * (bits + 3) + place))) (append_one (frame bits word) (frames_of bits words))
+    ∙ ap (λ (text : List ℕ). slice_get text (length (frame bits word ++ 10 ∷ []) + (address * (bits + 3) + place)))
+    (append_one (frame bits word) (frames_of bits words))
     ∙ get_right (frame bits word ++ 10 ∷ []) (frames_of bits words) (address * (bits + 3) + place)
     ∙ frame_at bits words address place (omega arith) small
 
@@ -88,15 +93,18 @@ letter_in_text : (bits : ℕ) (words : List ℕ) (address bit : ℕ) → address
     → slice_get (frames_of bits words) (letter_place bits address bit) ≡ Some (letter (bit_at (get_or words address 0) bit))
 letter_in_text bits words address bit within lt =
     let e : address * (bits + 3) + 1 + (bits - 1 - bit) ≡ address * (bits + 3) + (1 + (bits - 1 - bit)) = omega arith in
-    ap (slice_get (frames_of bits words)) e ∙ frame_at bits words address (1 + (bits - 1 - bit)) within (omega arith) ∙ letter_in_frame bits (get_or words address 0) bit lt
+    ap (slice_get (frames_of bits words)) e ∙ frame_at bits words address (1 + (bits - 1 - bit)) within (omega arith)
+    ∙ letter_in_frame bits (get_or words address 0) bit lt
 
-pub saved_bit : (decl : Declaration) (words : List ℕ) (images : List Image) → IsWidth decl.prom_bits → AreImages decl words images → (address bit : ℕ) → address < 512 → bit < width_of decl
+pub saved_bit : (decl : Declaration) (words : List ℕ) (images : List Image) → IsWidth decl.prom_bits → AreImages decl words images
+    → (address bit : ℕ) → address < 512 → bit < width_of decl
     → IsSavedBit decl.prom_bits words images address bit
 saved_bit decl words images width are address bit within lt =
     let w : ℕ = decl.prom_bits in
     let some : 0 < w = width_some w width in
     let room = (cover (width_of decl) w width).room in
-    let inside : bit / w < length images = omega (arith, div_below bit w (length images) some (rw are.fit.count (omega (arith, room, lt)))) in
+    let inside : bit / w < length images =
+    omega (arith, div_below bit w (length images) some (rw are.fit.count (omega (arith, room, lt)))) in
     let found = element_at images (bit / w) inside in
     let is = are.fit.each (bit / w) found.0 found.1 in
     let shown : bit_at (get_or found.0.words address 0) (bit % w) ≡ bit_at (slice_index words address) bit =

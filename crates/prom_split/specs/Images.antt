@@ -29,7 +29,8 @@ shown_bit w images address bit = bit_at (slice_index (words_in (slice_get images
 -- the images show each bit of the words, up to the width
 abbrev pub ShowBits : Declaration → List ℕ → List Image → Type 0
 ShowBits decl words images =
-    (address bit : ℕ) → address < 512 → bit < width_of decl → shown_bit decl.prom_bits images address bit ≡ bit_at (slice_index words address) bit
+    (address bit : ℕ) → address < 512 → bit < width_of decl
+    → shown_bit decl.prom_bits images address bit ≡ bit_at (slice_index words address) bit
 
 -- images of words of these bits
 abbrev pub HaveBits : ℕ → List Image → Type 0

@@ -46,7 +46,8 @@ IsInstrWord g place instr cell word = (jump : JumpWord) × IsJumpOf place instr 
 
 -- the word of a cell: of the instruction whose label is placed there, or the free cell's
 pub record IsWordOf (g : Graph) (place : List Position) (cell : Position) (word : ℕ) : Type 0 where
-  pub label : (label : ℕ) (instr : Instr) → slice_get g.instrs label ≡ Some instr → slice_get place label ≡ Some cell → IsInstrWord g place instr cell word
+  pub label : (label : ℕ) (instr : Instr) → slice_get g.instrs label ≡ Some instr → slice_get place label ≡ Some cell
+      → IsInstrWord g place instr cell word
   pub free : IsAt place None cell → word ≡ free_word g.decl cell
 
 -- the word at the address of a cell
@@ -66,10 +67,12 @@ HoldsInstr g place instr cell word = (jump : JumpWord) × MeetsLegality place in
 -- cell's word at every other cell
 pub record HoldsProgram (g : Graph) (place : List Position) (words : List ℕ) : Type 0 where
   pub count : length words ≡ 512
-  pub labels : (label : ℕ) (instr : Instr) (cell : Position) → slice_get g.instrs label ≡ Some instr → slice_get place label ≡ Some cell → HoldsInstr g place instr cell (word_at words cell)
+  pub labels : (label : ℕ) (instr : Instr) (cell : Position) → slice_get g.instrs label ≡ Some instr → slice_get place label ≡ Some cell
+      → HoldsInstr g place instr cell (word_at words cell)
   pub free : (cell : Position) → IsCell cell → IsAt place None cell → word_at words cell ≡ free_word g.decl cell
 
 -- no word orders the right shift with K bits other than 0
 abbrev pub HasNoBadShift : List ℕ → Declaration → Type 0
 HasNoBadShift words decl =
-    (cell : Position) → IsCell cell → IsTrue (is_shift (parts_of decl (word_at words cell)).func) → (parts_of decl (word_at words cell)).kbits ≡ 0
+    (cell : Position) → IsCell cell → IsTrue (is_shift (parts_of decl (word_at words cell)).func)
+    → (parts_of decl (word_at words cell)).kbits ≡ 0

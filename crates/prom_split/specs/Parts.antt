@@ -27,7 +27,8 @@ width_of decl = word_bits decl.kbus decl.fields
 -- the word of these parts: AC from bit 0, FC from bit 7, F from bit 11, the K bits from bit 18, then the fields
 unfoldable pub word_by : Declaration → WordParts → ℕ
 word_by decl parts =
-    ac_of parts.jump + 2 ^ 7 * fc_of parts.ctl + 2 ^ 11 * parts.func + 2 ^ 18 * parts.kbits + 2 ^ (18 + decl.kbus) * joined decl.fields parts.values
+    ac_of parts.jump + 2 ^ 7 * fc_of parts.ctl + 2 ^ 11 * parts.func + 2 ^ 18 * parts.kbits + 2 ^ (18 + decl.kbus)
+    * joined decl.fields parts.values
 
 -- the parts of a word
 unfoldable pub parts_of : Declaration → ℕ → WordParts

@@ -301,7 +301,8 @@ queue_empty es =
     record {
       within = le;
       present =
-          All-same (λ e. e.level ≡ level_of es) (drop (length es) es) [] (drop_all (length es) es le) (All-nil (λ e. e.level ≡ level_of es));
+          All-same (λ e. e.level ≡ level_of es) (drop (length es) es) [] (drop_all (length es) es le)
+          (All-nil (λ e. e.level ≡ level_of es));
     }
 
 -- the first of the queue is of the present level

@@ -89,16 +89,17 @@ pub step_moved : (vars : ℕ) (clauses : List (List ℤ)) (lists new : List (Lis
     → IsHandedOn lists new pairs after lit next other place w
     → IsStep vars clauses lists new pairs after es es lit place
     × (length (list_at new (code_of lit)) + 1 ≡ length (list_at lists (code_of lit)))
-step_moved vars clauses lists new pairs after es lit next other place w clause t laid forced lit_lt next_lt there clause_there partner paired next_in other_in apart other_ne lit_false next_not h = (
-  record {
-    forced = forced;
-    extends = Extends_none es;
-    laid = new_laid;
-    guarded = guarded;
-    passed = passed;
-  },
-  shorter,
-)
+step_moved vars clauses lists new pairs after es lit next other place w clause t laid forced lit_lt next_lt there clause_there partner
+    paired next_in other_in apart other_ne lit_false next_not h = (
+      record {
+        forced = forced;
+        extends = Extends_none es;
+        laid = new_laid;
+        guarded = guarded;
+        passed = passed;
+      },
+      shorter,
+    )
   where
     pushed : List (List Watch)
     pushed = set lists (code_of next) (list_at lists (code_of next) ++ h.handed ∷ [])
@@ -213,7 +214,8 @@ step_moved vars clauses lists new pairs after es lit next other place w clause t
                   (moves n next (inr (λ same. codes (sym same)))
                   (subst (λ (m : ℕ). IsListed pushed m next) (h.index_is ∙ sym at) (listed_here lists next h.handed next_lt)));
               second_listed = subst (λ (z : ℤ). IsListed new n z) second_is (moves n other (inr other_codes) (grows n other listed));
-              first_guarded = λ l e. guarded_watchable vars es head c next t next_not l (ap (λ z. value_of z (up_to l (take head es))) first_is ∙ e);
+              first_guarded = λ l e. guarded_watchable vars es head c next t next_not l
+                  (ap (λ z. value_of z (up_to l (take head es))) first_is ∙ e);
               second_guarded = λ l e. ⊎_elim
                   (λ (s : (q.first ≡ lit) × (q.second ≡ other)). x.second_guarded l
                   (ap (λ z. value_of z (up_to l (take head es))) (s.1 ∙ second_is) ∙ e))

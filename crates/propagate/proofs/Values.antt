@@ -197,7 +197,8 @@ sign_of_filter p v (e ∷ es) s apart h =
     (sign_of_filter p v es s (λ i j d lt within. apart (suc i) (suc j) d (omega arith) (omega arith)))
   where
     absent : (var_of e.lit == v) ≡ true → sign_of v (filter p es) ≡ None
-    absent is = sign_none p v es (λ i d lt passes same. apart 0 (suc i) d (omega arith) (omega arith) (eqb-true (var_of e.lit) v is ∙ sym same))
+    absent is = sign_none p v es
+        (λ i d lt passes same. apart 0 (suc i) d (omega arith) (omega arith) (eqb-true (var_of e.lit) v is ∙ sym same))
 
     by : (b c : Bool) → p e ≡ b → (var_of e.lit == v) ≡ c → sign_of v (cond b (e ∷ filter p es) (filter p es)) ≡ Some s
         → (sign_of v (filter p es) ≡ Some s → sign_of v es ≡ Some s) → (if c then Some (is_positive e.lit) else sign_of v es) ≡ Some s

@@ -26,7 +26,8 @@ below_length : (piece : List ℕ) → (lf_at piece == length piece) ≡ false �
 below_length piece e = let le = prefix_len-le-length (λ b. not (b == 10)) piece in grind (arith, nat_tests, le)
 
 -- the line that the reader judges, where none was begun
-same_fault : (r : Reader) (piece : List ℕ) → r.begun ≡ [] → text_fault r.number r.vars r.over (r.begun ++ take (lf_at piece) piece) ≡ first_fault r piece
+same_fault : (r : Reader) (piece : List ℕ) → r.begun ≡ []
+    → text_fault r.number r.vars r.over (r.begun ++ take (lf_at piece) piece) ≡ first_fault r piece
 same_fault r piece none = ap (λ (b : List ℕ). text_fault r.number r.vars r.over (b ++ take (lf_at piece) piece)) none
 
 -- the answer where the piece has no LF, or has one
@@ -42,14 +43,16 @@ fed_if_is r piece = by (lf_at piece == length piece)
     by false = refl
 
 good_tells : (r : Reader) (piece : List ℕ) → r.begun ≡ [] → Tells r piece (fed_good r piece).used (fed_good r piece).event
-good_tells r piece none = subst (λ (f : Fed). Tells r piece f.used f.event) (sym (fed_if_is r piece)) (by (lf_at piece == length piece) refl)
+good_tells r piece none =
+    subst (λ (f : Fed). Tells r piece f.used f.event) (sym (fed_if_is r piece)) (by (lf_at piece == length piece) refl)
   where
     of_fault : (o : Option Why) → first_fault r piece ≡ o → lf_at piece < length piece →
         Tells r piece (lf_at piece + 1) (told r.count (judged (with_bytes r (take (lf_at piece) piece)) o).bad)
     of_fault None is lt = (lt, refl, is)
     of_fault (Some why) is lt = (lt, is)
 
-    of_text : (o : Option Why) → text_fault r.number r.vars r.over (r.begun ++ take (lf_at piece) piece) ≡ o → lf_at piece < length piece →
+    of_text : (o : Option Why) → text_fault r.number r.vars r.over (r.begun ++ take (lf_at piece) piece) ≡ o
+        → lf_at piece < length piece →
         Tells r piece (lf_at piece + 1) (told r.count (judged (with_bytes r (take (lf_at piece) piece)) o).bad)
     of_text o is lt = of_fault o (sym (same_fault r piece none) ∙ is) lt
 
@@ -57,22 +60,27 @@ good_tells r piece none = subst (λ (f : Fed). Tells r piece f.used f.event) (sy
     by true is = (grind (arith, nat_tests), refl)
     by false is = of_text (text_fault r.number r.vars r.over (r.begun ++ take (lf_at piece) piece)) refl (below_length piece is)
 
-pub fed_tells : (r : Reader) (piece : List ℕ) (fed : Fed) → r.begun ≡ [] → r.bad ≡ None → fed ≡ fed_of r.bad r piece → Tells r piece fed.used fed.event
+pub fed_tells : (r : Reader) (piece : List ℕ) (fed : Fed) → r.begun ≡ [] → r.bad ≡ None → fed ≡ fed_of r.bad r piece
+    → Tells r piece fed.used fed.event
 fed_tells r piece fed none good is =
     let e : fed_good r piece ≡ fed = sym (is ∙ ap (λ (o : Option Why). fed_of o r piece) good) in
     subst (λ (f : Fed). Tells r piece f.used f.event) e (good_tells r piece none)
 
 -- the reader after a line
-pub fed_line : (r new : Reader) (piece : List ℕ) → r.begun ≡ [] → r.bad ≡ None → new ≡ after_feed r.bad r piece → lf_at piece < length piece →
+pub fed_line : (r new : Reader) (piece : List ℕ) → r.begun ≡ [] → r.bad ≡ None → new ≡ after_feed r.bad r piece
+    → lf_at piece < length piece →
     first_fault r piece ≡ None → new ≡ with_line r (line_of (form (take (lf_at piece) piece)))
 fed_line r new piece none good is lt right =
-    is ∙ ap (λ (o : Option Why). after_feed o r piece) good ∙ by (lf_at piece == length piece) refl ∙ of_text (text_fault r.number r.vars r.over (r.begun ++ take (lf_at piece) piece)) (same_fault r piece none ∙ right)
+    is ∙ ap (λ (o : Option Why). after_feed o r piece) good ∙ by (lf_at piece == length piece) refl
+    ∙ of_text (text_fault r.number r.vars r.over (r.begun ++ take (lf_at piece) piece)) (same_fault r piece none ∙ right)
   where
     by : (b : Bool) → (lf_at piece == length piece) ≡ b →
-        (if b then with_bytes r piece else at_end (with_bytes r (take (lf_at piece) piece))) ≡ at_end (with_bytes r (take (lf_at piece) piece))
+        (if b then with_bytes r piece else at_end (with_bytes r (take (lf_at piece) piece))) ≡ at_end
+        (with_bytes r (take (lf_at piece) piece))
     by true is = absurd (grind (arith, nat_tests))
     by false is = refl
 
-    of_text : (o : Option Why) → o ≡ None → judged (with_bytes r (take (lf_at piece) piece)) o ≡ with_line r (line_of (form (take (lf_at piece) piece)))
+    of_text : (o : Option Why) → o ≡ None
+        → judged (with_bytes r (take (lf_at piece) piece)) o ≡ with_line r (line_of (form (take (lf_at piece) piece)))
     of_text None e = ap (λ (b : List ℕ). with_line r (line_of (form (b ++ take (lf_at piece) piece)))) none
     of_text (Some why) e = cc

@@ -74,7 +74,8 @@ other_way m n false h = grind (arith, nat_tests)
 pub are_literals_push : (vars : ℕ) (zs : List ℤ) (z : ℤ) → are_literals vars zs ≡ true →
     (is_variable vars (var_of z) && not (list_any (λ y. var_of y == var_of z) zs)) ≡ true → are_literals vars (zs ++ z ∷ []) ≡ true
 unfolding are_literals
-are_literals_push vars [] z h free = let f = and_parts (is_variable vars (var_of z)) _ free in all_three (is_variable vars (var_of z)) true true f.0 refl refl
+are_literals_push vars [] z h free = let f = and_parts (is_variable vars (var_of z)) _ free in
+    all_three (is_variable vars (var_of z)) true true f.0 refl refl
 are_literals_push vars (y ∷ ys) z h free =
     let p = and_parts (is_variable vars (var_of y) && not (list_any (λ x. var_of x == var_of y) ys)) (are_literals vars ys) h in
     let q = and_parts (is_variable vars (var_of y)) (not (list_any (λ x. var_of x == var_of y) ys)) p.0 in
@@ -89,61 +90,76 @@ are_literals_push vars (y ∷ ys) z h free =
 pub are_literals_stops : (vars : ℕ) (xs : List ℤ) (z : ℤ) (ys : List ℤ) →
     (is_variable vars (var_of z) && not (list_any (λ y. var_of y == var_of z) xs)) ≡ false → are_literals vars (xs ++ z ∷ ys) ≡ false
 unfolding are_literals
-are_literals_stops vars [] z ys h = first_false (is_variable vars (var_of z)) (not (list_any (λ y. var_of y == var_of z) ys)) (are_literals vars ys) h
+are_literals_stops vars [] z ys h =
+    first_false (is_variable vars (var_of z)) (not (list_any (λ y. var_of y == var_of z) ys)) (are_literals vars ys) h
 are_literals_stops vars (x ∷ xs) z ys h = elim (cases_Bool (var_of x == var_of z)) [
   | inl same ↦
       let met : list_any (λ y. var_of y == var_of x) (xs ++ z ∷ ys) ≡ true =
       list_any-append (λ y. var_of y == var_of x) xs (z ∷ ys) ∙ or_mid _ _ _ (other_way (var_of x) (var_of z) true same) in
       mid_false _ _ _ met
-  | inr other ↦ last_false (is_variable vars (var_of x)) (not (list_any (λ y. var_of y == var_of x) (xs ++ z ∷ ys))) (are_literals vars (xs ++ z ∷ ys)) (are_literals_stops vars xs z ys (drop_other (is_variable vars (var_of z)) (var_of x == var_of z) (list_any (λ y. var_of y == var_of z) xs) other h))
+  | inr other ↦ last_false (is_variable vars (var_of x)) (not (list_any (λ y. var_of y == var_of x) (xs ++ z ∷ ys)))
+      (are_literals vars (xs ++ z ∷ ys))
+      (are_literals_stops vars xs z ys
+      (drop_other (is_variable vars (var_of z)) (var_of x == var_of z) (list_any (λ y. var_of y == var_of z) xs) other h))
 ]
 
 -- a list around one of its elements
-pub split_there : {X : Type 0} (xs : List X) (i : ℕ) (x d : X) → i < length xs → x ≡ get_or xs i d → (rest : List X) × (xs ≡ take i xs ++ x ∷ rest)
+pub split_there : {X : Type 0} (xs : List X) (i : ℕ) (x d : X) → i < length xs → x ≡ get_or xs i d
+    → (rest : List X) × (xs ≡ take i xs ++ x ∷ rest)
 split_there [] i x d lt e = absurd (omega arith)
 split_there (y ∷ ys) zero x d lt e = (ys, ap (λ z. z ∷ ys) (sym e))
 split_there (y ∷ ys) (suc i) x d lt e = let r = split_there ys i x d (omega arith) e in (r.0, ap (λ zs. y ∷ zs) r.1)
 
 -- a test of the marks is a test of the literals before
 free_is : (vars : ℕ) (values : List Signed) (value : Signed) (marked : Bool) → marked ≡ are_met values value.size →
-    (is_variable vars (var_of (literal_of value)) && not (list_any (λ z. var_of z == var_of (literal_of value)) (map literal_of values))) ≡ (is_variable vars value.size && not marked)
+    (is_variable vars (var_of (literal_of value)) && not (list_any (λ z. var_of z == var_of (literal_of value)) (map literal_of values)))
+    ≡ (is_variable vars value.size && not marked)
 free_is vars values value marked h =
     ap (λ v. is_variable vars v && not (list_any (λ z. var_of z == v) (map literal_of values))) (var_literal value)
     ∙ ap (λ b. is_variable vars value.size && not b) (met_literals values value.size ∙ sym h)
 
 -- after a variable that is free
-pub mark_more : (vars : ℕ) (values : List Signed) (i : ℕ) (value d : Signed) (marked : Bool) → i < length values → value ≡ get_or values i d →
+pub mark_more : (vars : ℕ) (values : List Signed) (i : ℕ) (value d : Signed) (marked : Bool) → i < length values
+    → value ≡ get_or values i d →
     are_literals vars (map literal_of (take i values)) ≡ true → marked ≡ are_met (take i values) value.size →
     (is_variable vars value.size && not marked) ≡ true → are_literals vars (map literal_of (take (i + 1) values)) ≡ true
 mark_more vars values i value d marked lt is apart met free =
     ap (λ l. are_literals vars (map literal_of l)) (take_more values i d lt ∙ ap (λ v. take i values ++ v ∷ []) (sym is))
     ∙ ap (are_literals vars) (map-append literal_of (take i values) (value ∷ []))
-    ∙ are_literals_push vars (map literal_of (take i values)) (literal_of value) apart (free_is vars (take i values) value marked met ∙ free)
+    ∙ are_literals_push vars (map literal_of (take i values)) (literal_of value) apart
+    (free_is vars (take i values) value marked met ∙ free)
 
 -- at a variable that is not free
-pub mark_stops : (vars : ℕ) (values : List Signed) (i : ℕ) (value d : Signed) (marked : Bool) → i < length values → value ≡ get_or values i d →
+pub mark_stops : (vars : ℕ) (values : List Signed) (i : ℕ) (value d : Signed) (marked : Bool) → i < length values
+    → value ≡ get_or values i d →
     marked ≡ are_met (take i values) value.size →
     (is_variable vars value.size && not marked) ≡ false → are_literals vars (map literal_of values) ≡ false
 mark_stops vars values i value d marked lt is met free =
     let r = split_there values i value d lt is in
     ap (λ l. are_literals vars (map literal_of l)) r.1
     ∙ ap (are_literals vars) (map-append literal_of (take i values) (value ∷ r.0))
-    ∙ are_literals_stops vars (map literal_of (take i values)) (literal_of value) (map literal_of r.0) (free_is vars (take i values) value marked met ∙ free)
+    ∙ are_literals_stops vars (map literal_of (take i values)) (literal_of value) (map literal_of r.0)
+    (free_is vars (take i values) value marked met ∙ free)
 
 -- the marks after one more
-pub met_more : (values : List Signed) (i : ℕ) (value d : Signed) (marks : List Bool) → i < length values → value ≡ get_or values i d → value.size < length marks →
-    ((v : ℕ) → get_or marks v false ≡ are_met (take i values) v) → (v : ℕ) → get_or (set marks value.size true) v false ≡ are_met (take (i + 1) values) v
+pub met_more : (values : List Signed) (i : ℕ) (value d : Signed) (marks : List Bool) → i < length values → value ≡ get_or values i d
+    → value.size < length marks →
+    ((v : ℕ) → get_or marks v false ≡ are_met (take i values) v) → (v : ℕ)
+    → get_or (set marks value.size true) v false ≡ are_met (take (i + 1) values) v
 met_more values i value d marks lt is within met v =
     let more : are_met (take (i + 1) values) v ≡ (are_met (take i values) v || (value.size == v)) =
-    list_any_more (λ (x : Signed). x.size == v) values i d lt ∙ ap (λ (x : Signed). are_met (take i values) v || (x.size == v)) (sym is) in
+    list_any_more (λ (x : Signed). x.size == v) values i d lt
+    ∙ ap (λ (x : Signed). are_met (take i values) v || (x.size == v)) (sym is) in
     elim (cases_Bool (value.size == v)) [
       | inl same ↦
           let at : v ≡ value.size = grind (arith, nat_tests) in
           let P : ℕ → Type 0 = λ u. get_or (set marks value.size true) u false ≡ true in
-          subst P (sym at) (get_or-set_same marks value.size true false within) ∙ sym (more ∙ ap (λ b. are_met (take i values) v || b) same ∙ or_true (are_met (take i values) v))
+          subst P (sym at) (get_or-set_same marks value.size true false within)
+          ∙ sym (more ∙ ap (λ b. are_met (take i values) v || b) same ∙ or_true (are_met (take i values) v))
       | inr other ↦
           let apart : v ≢ value.size = λ e. grind (arith, nat_tests) in
-          get_or-set_other marks value.size v true false apart ∙ met v ∙ sym (more ∙ ap (λ b. are_met (take i values) v || b) other ∙ or_false (are_met (take i values) v))
+          get_or-set_other marks value.size v true false apart ∙ met v
+          ∙ sym (more ∙ ap (λ b. are_met (take i values) v || b) other ∙ or_false (are_met (take i values) v))
     ]
   where
     or_true : (b : Bool) → (b || true) ≡ true
@@ -165,15 +181,19 @@ met_kept (x ∷ xs) (suc i) v h = elim (cases_Bool (x.size == v)) [
 ]
 
 -- literals are of variables of the list
-pub each_literal : (vars : ℕ) (values : List Signed) → are_literals vars (map literal_of values) ≡ true → All (λ value. (0 < value.size) × (value.size ≤ vars)) values
+pub each_literal : (vars : ℕ) (values : List Signed) → are_literals vars (map literal_of values) ≡ true
+    → All (λ value. (0 < value.size) × (value.size ≤ vars)) values
 unfolding are_literals
 each_literal vars [] h k d lt = absurd (omega arith)
 each_literal vars (x ∷ xs) h zero d lt =
-    let p = and_parts (is_variable vars (var_of (literal_of x)) && not (list_any (λ y. var_of y == var_of (literal_of x)) (map literal_of xs))) (are_literals vars (map literal_of xs)) h in
-    let q = and_parts (is_variable vars (var_of (literal_of x))) (not (list_any (λ y. var_of y == var_of (literal_of x)) (map literal_of xs))) p.0 in
+    let p = and_parts (is_variable vars (var_of (literal_of x)) && not
+    (list_any (λ y. var_of y == var_of (literal_of x)) (map literal_of xs))) (are_literals vars (map literal_of xs)) h in
+    let q = and_parts (is_variable vars (var_of (literal_of x)))
+    (not (list_any (λ y. var_of y == var_of (literal_of x)) (map literal_of xs))) p.0 in
     let r = and_parts (nat_le 1 (var_of (literal_of x))) (nat_le (var_of (literal_of x)) vars) q.0 in
     let size = var_literal x in
     (grind (arith, nat_tests), grind (arith, nat_tests))
 each_literal vars (x ∷ xs) h (suc k) d lt =
-    let p = and_parts (is_variable vars (var_of (literal_of x)) && not (list_any (λ y. var_of y == var_of (literal_of x)) (map literal_of xs))) (are_literals vars (map literal_of xs)) h in
+    let p = and_parts (is_variable vars (var_of (literal_of x)) && not
+    (list_any (λ y. var_of y == var_of (literal_of x)) (map literal_of xs))) (are_literals vars (map literal_of xs)) h in
     each_literal vars xs p.1 k d (omega arith)

@@ -38,7 +38,8 @@ decimal_led zero small = ap has_no_leading_zero (decimal_digit 0 (omega arith))
 decimal_led (suc n) small = led (decimal (suc n)) (first_decimal (suc n) (omega arith) (omega arith))
 
 pub decimal_numeral : (n : ℕ) → n < 2 ^ 32 → is_numeral (decimal n) ≡ true
-decimal_numeral n small = and_from (has_no_leading_zero (decimal n)) (list_all is_ascii_digit (decimal n)) (decimal_led n small) (decimal_digits n small)
+decimal_numeral n small =
+    and_from (has_no_leading_zero (decimal n)) (list_all is_ascii_digit (decimal n)) (decimal_led n small) (decimal_digits n small)
 
 -- the number of a word of digits
 number_is : (word : List ℕ) (n : ℕ) → is_numeral word ≡ true → digits_value 10 word ≡ n → n < 2 ^ 32 → number_of word ≡ Some n
@@ -54,7 +55,8 @@ digit_other : (b c : ℕ) → is_ascii_digit b ≡ true → c < 48 → (b == c) 
 digit_other b c digit low = grind (arith, nat_tests)
 
 -- a word of digits is read without a sign
-digits_plain : (word : List ℕ) (n : ℕ) → AreDigits word → 0 < length word → number_of word ≡ Some n → value_of word ≡ Some (record { minus = false; size = n })
+digits_plain : (word : List ℕ) (n : ℕ) → AreDigits word → 0 < length word → number_of word ≡ Some n
+    → value_of word ≡ Some (record { minus = false; size = n })
 digits_plain [] n digits some is = absurd (omega arith)
 digits_plain (b ∷ bs) n digits some is =
     let p = and_parts (is_ascii_digit b) (list_all is_ascii_digit bs) digits in
@@ -77,8 +79,10 @@ literal_read (negsuc n) small = ap negated (decimal_number (suc n) small)
 -- digits hold no byte below theirs
 pub digits_pass : (c : ℕ) → c < 48 → (ds : List ℕ) → AreDigits ds → All (λ b. (b == c) ≡ false) ds
 digits_pass c low [] digits k d lt = absurd (omega arith)
-digits_pass c low (b ∷ bs) digits zero d lt = let p = and_parts (is_ascii_digit b) (list_all is_ascii_digit bs) digits in digit_other b c p.0 low
-digits_pass c low (b ∷ bs) digits (suc k) d lt = let p = and_parts (is_ascii_digit b) (list_all is_ascii_digit bs) digits in digits_pass c low bs p.1 k d (omega arith)
+digits_pass c low (b ∷ bs) digits zero d lt = let p = and_parts (is_ascii_digit b) (list_all is_ascii_digit bs) digits in
+    digit_other b c p.0 low
+digits_pass c low (b ∷ bs) digits (suc k) d lt = let p = and_parts (is_ascii_digit b) (list_all is_ascii_digit bs) digits in
+    digits_pass c low bs p.1 k d (omega arith)
 
 pub decimal_pass : (c n : ℕ) → c < 48 → n < 2 ^ 32 → All (λ b. (b == c) ≡ false) (decimal n)
 decimal_pass c n low small = digits_pass c low (decimal n) (decimal_digits n small)

@@ -37,15 +37,28 @@ unfolding after events
 events_cut r [] ys = refl
 events_cut r (x ∷ xs) ys = by r.bad (x == 10) refl (events_cut (on r.bad r x) xs ys)
   where
-    by : (bad : Option Why) (lf : Bool) → r.bad ≡ bad → events (on r.bad r x) (xs ++ ys) ≡ events (on r.bad r x) xs ++ events (after (on r.bad r x) xs) ys →
-        events_at bad lf r (events (on r.bad r x) (xs ++ ys)) ≡ events_at bad lf r (events (on r.bad r x) xs) ++ events (after (on r.bad r x) xs) ys
-    by (Some why) lf is h = sym (ap (λ o. events (after (on o r x) xs) ys) is ∙ ap (λ t. events t ys) (bad_stays r why xs is) ∙ bad_tells r why ys is)
+    by : (bad : Option Why) (lf : Bool) → r.bad ≡ bad
+        → events (on r.bad r x) (xs ++ ys) ≡ events (on r.bad r x) xs ++ events (after (on r.bad r x) xs) ys →
+        events_at bad lf r (events (on r.bad r x) (xs ++ ys)) ≡ events_at bad lf r (events (on r.bad r x) xs) ++ events
+        (after (on r.bad r x) xs) ys
+    by (Some why) lf is h =
+        sym (ap (λ o. events (after (on o r x) xs) ys) is ∙ ap (λ t. events t ys) (bad_stays r why xs is) ∙ bad_tells r why ys is)
     by None true is h = ap (λ es. told r.count (at_end r).bad ∷ es) h
     by None false is h = h
 
 -- the bytes of the line that is begun are others
 abbrev with_begun : Reader → List ℕ → Reader
-with_begun r begun = record { vars = r.vars; count = r.count; number = r.number; over = r.over; begun = begun; bad = r.bad; last = r.last; failed = r.failed }
+with_begun r begun =
+    record {
+      vars = r.vars;
+      count = r.count;
+      number = r.number;
+      over = r.over;
+      begun = begun;
+      bad = r.bad;
+      last = r.last;
+      failed = r.failed;
+    }
 
 no_bytes : (r : Reader) → with_bytes r [] ≡ r
 no_bytes r = ap (with_begun r) (append-nil r.begun)
@@ -72,7 +85,8 @@ inside_line r (b ∷ bs) good le = elim (cases_Bool (b == 10)) [
       let one = next_inside r b good is in
       record {
         reader = ap (λ t. after t bs) one ∙ k.reader ∙ more_bytes r b bs;
-        nothing = ap (λ o. events_at o (b == 10) r (events (on r.bad r b) bs)) good ∙ ap (λ lf. events_at None lf r (events (on r.bad r b) bs)) is ∙ ap (λ t. events t bs) one ∙ k.nothing;
+        nothing = ap (λ o. events_at o (b == 10) r (events (on r.bad r b) bs)) good
+            ∙ ap (λ lf. events_at None lf r (events (on r.bad r b) bs)) is ∙ ap (λ t. events t bs) one ∙ k.nothing;
       }
 ]
 
@@ -87,7 +101,8 @@ line_ends r [] n good at lt = absurd (omega arith)
 line_ends r (b ∷ bs) zero good at lt = elim (cases_Bool (b == 10)) [
   | inl is ↦ record {
     reader = ap (λ o. on o r b) good ∙ rw is refl ∙ ap at_end (sym (no_bytes r));
-    event = ap (λ o. events_at o (b == 10) r (events (on r.bad r b) [])) good ∙ ap (λ lf. events_at None lf r (events (on r.bad r b) [])) is ∙ ap (λ t. told r.count (at_end t).bad ∷ []) (sym (no_bytes r));
+    event = ap (λ o. events_at o (b == 10) r (events (on r.bad r b) [])) good
+        ∙ ap (λ lf. events_at None lf r (events (on r.bad r b) [])) is ∙ ap (λ t. told r.count (at_end t).bad ∷ []) (sym (no_bytes r));
   }
   | inr is ↦ let z : lf_at (b ∷ bs) ≡ 1 + lf_at bs = rw is refl in absurd (omega (arith, z, at))
 ]
@@ -99,7 +114,9 @@ line_ends r (b ∷ bs) (suc n) good at lt = elim (cases_Bool (b == 10)) [
       let one = next_inside r b good is in
       record {
         reader = ap (λ t. after t (take (suc n) bs)) one ∙ k.reader ∙ ap at_end (more_bytes r b (take n bs));
-        event = ap (λ o. events_at o (b == 10) r (events (on r.bad r b) (take (suc n) bs))) good ∙ ap (λ lf. events_at None lf r (events (on r.bad r b) (take (suc n) bs))) is ∙ ap (λ t. events t (take (suc n) bs)) one ∙ k.event
+        event = ap (λ o. events_at o (b == 10) r (events (on r.bad r b) (take (suc n) bs))) good
+            ∙ ap (λ lf. events_at None lf r (events (on r.bad r b) (take (suc n) bs))) is ∙ ap (λ t. events t (take (suc n) bs)) one
+            ∙ k.event
             ∙ ap (λ t. told r.count (at_end t).bad ∷ []) (more_bytes r b (take n bs));
       }
 ]
@@ -118,7 +135,8 @@ feed_law r piece = by r.bad refl (lf_at piece == length piece) refl
   where
     of_good : (b : Bool) → r.bad ≡ None → (lf_at piece == length piece) ≡ b →
         IsFed r piece (cond b (with_bytes r piece) (at_end (with_bytes r (take (lf_at piece) piece))))
-        (cond b (record { used = length piece; event = event.More }) (record { used = lf_at piece + 1; event = told r.count (at_end (with_bytes r (take (lf_at piece) piece))).bad }))
+        (cond b (record { used = length piece; event = event.More })
+        (record { used = lf_at piece + 1; event = told r.count (at_end (with_bytes r (take (lf_at piece) piece))).bad }))
     of_good true good is =
         let whole : take (length piece) piece ≡ piece = take_all (length piece) piece (omega arith) in
         let k = inside_line r piece good (grind (arith, nat_tests)) in
@@ -130,10 +148,12 @@ feed_law r piece = by r.bad refl (lf_at piece == length piece) refl
         let one : lf_at piece + 1 ≡ suc (lf_at piece) = omega arith in
         record {
           reader = sym (ap (λ (m : ℕ). after r (take m piece)) one ∙ k.reader);
-          tells = λ h. ap (λ (m : ℕ). events r (take m piece)) one ∙ k.event ∙ sym (brought_told r.count (at_end (with_bytes r (take (lf_at piece) piece))).bad);
+          tells = λ h. ap (λ (m : ℕ). events r (take m piece)) one ∙ k.event
+              ∙ sym (brought_told r.count (at_end (with_bytes r (take (lf_at piece) piece))).bad);
         }
 
-    by : (o : Option Why) → r.bad ≡ o → (b : Bool) → (lf_at piece == length piece) ≡ b → IsFed r piece (after_feed o r piece) (fed_of o r piece)
+    by : (o : Option Why) → r.bad ≡ o → (b : Bool) → (lf_at piece == length piece) ≡ b
+        → IsFed r piece (after_feed o r piece) (fed_of o r piece)
     by (Some why) good b is = record { reader = refl; tells = λ none. absurd (not_both why none good) }
     by None good b is = of_good (lf_at piece == length piece) good refl
 
@@ -146,19 +166,22 @@ onto_none : (parts : List (List ℕ)) → onto_begun [] parts ≡ parts
 onto_none [] = refl
 onto_none (part ∷ parts) = refl
 
-onto_next : (begun : List ℕ) (b : ℕ) (parts : List (List ℕ)) → 0 < length parts → onto_begun (begun ++ b ∷ []) parts ≡ onto_begun begun (onto_first b parts)
+onto_next : (begun : List ℕ) (b : ℕ) (parts : List (List ℕ)) → 0 < length parts
+    → onto_begun (begun ++ b ∷ []) parts ≡ onto_begun begun (onto_first b parts)
 onto_next begun b [] some = absurd (omega arith)
 onto_next begun b (part ∷ parts) some = ap (λ line. line ∷ parts) (append_assoc begun (b ∷ []) part)
 
 -- a line and then other parts
 bring_line : (number vars count : ℕ) (over : Bool) (line : List ℕ) (parts : List (List ℕ)) → 0 < length parts →
-    lines_bring number vars count over (line ∷ parts) ≡ or_further count (text_fault number vars over line) (lines_bring (number + 1) vars (count + 1) (is_empty (line_of (form line))) parts)
+    lines_bring number vars count over (line ∷ parts) ≡ or_further count (text_fault number vars over line)
+    (lines_bring (number + 1) vars (count + 1) (is_empty (line_of (form line))) parts)
 unfolding lines_bring
 bring_line number vars count over line [] some = absurd (omega arith)
 bring_line number vars count over line (next ∷ parts) some = refl
 
 -- the whole lines of a text decide what is told
-events_lines : (r : Reader) (bytes : List ℕ) → r.bad ≡ None → events r bytes ≡ lines_bring r.number r.vars r.count r.over (onto_begun r.begun (slice_split (λ b. b == 10) bytes))
+events_lines : (r : Reader) (bytes : List ℕ) → r.bad ≡ None
+    → events r bytes ≡ lines_bring r.number r.vars r.count r.over (onto_begun r.begun (slice_split (λ b. b == 10) bytes))
 unfolding events lines_bring
 events_lines r [] good = refl
 events_lines r (b ∷ bs) good = by (b == 10) refl (λ t h. events_lines t bs h)
@@ -169,13 +192,20 @@ events_lines r (b ∷ bs) good = by (b == 10) refl (λ t h. events_lines t bs h)
     some : 0 < length parts
     some = omega (arith, length-slice_split (λ b. b == 10) bs)
 
-    at_lf : (o : Option Why) → ((t : Reader) → t.bad ≡ None → events t bs ≡ lines_bring t.number t.vars t.count t.over (onto_begun t.begun parts)) →
-        told r.count (judged r o).bad ∷ events (judged r o) bs ≡ or_further r.count o (lines_bring (r.number + 1) r.vars (r.count + 1) (is_empty (line_of (form r.begun))) parts)
-    at_lf None further = ap (λ es. event.Line ∷ es) (further (with_line r (line_of (form r.begun))) refl ∙ ap (lines_bring (r.number + 1) r.vars (r.count + 1) (is_empty (line_of (form r.begun)))) (onto_none parts))
+    at_lf : (o : Option Why)
+        → ((t : Reader) → t.bad ≡ None → events t bs ≡ lines_bring t.number t.vars t.count t.over (onto_begun t.begun parts)) →
+        told r.count (judged r o).bad ∷ events (judged r o) bs ≡ or_further r.count o
+        (lines_bring (r.number + 1) r.vars (r.count + 1) (is_empty (line_of (form r.begun))) parts)
+    at_lf None further =
+        ap (λ es. event.Line ∷ es)
+        (further (with_line r (line_of (form r.begun))) refl
+        ∙ ap (lines_bring (r.number + 1) r.vars (r.count + 1) (is_empty (line_of (form r.begun)))) (onto_none parts))
     at_lf (Some why) further = ap (λ es. event.Bad (r.count + 1) why ∷ es) (bad_tells (with_bad r why) why bs refl)
 
-    by : (lf : Bool) → (b == 10) ≡ lf → ((t : Reader) → t.bad ≡ None → events t bs ≡ lines_bring t.number t.vars t.count t.over (onto_begun t.begun parts)) →
-        events_at r.bad (b == 10) r (events (on r.bad r b) bs) ≡ lines_bring r.number r.vars r.count r.over (onto_begun r.begun (cond lf ([] ∷ parts) (onto_first b parts)))
+    by : (lf : Bool) → (b == 10) ≡ lf
+        → ((t : Reader) → t.bad ≡ None → events t bs ≡ lines_bring t.number t.vars t.count t.over (onto_begun t.begun parts)) →
+        events_at r.bad (b == 10) r (events (on r.bad r b) bs) ≡ lines_bring r.number r.vars r.count r.over
+        (onto_begun r.begun (cond lf ([] ∷ parts) (onto_first b parts)))
     by true is further =
         ap (λ o. events_at o (b == 10) r (events (on o r b) bs)) good ∙ rw is refl
         ∙ at_lf (text_fault r.number r.vars r.over r.begun) further
@@ -187,13 +217,17 @@ events_lines r (b ∷ bs) good = by (b == 10) refl (λ t h. events_lines t bs h)
         ∙ ap (lines_bring r.number r.vars r.count r.over) (onto_next r.begun b parts some)
 
 -- from the first line on
-pub first_events : (number vars : ℕ) (text : List ℕ) → events (first number vars) text ≡ lines_bring number vars 0 false (slice_split (λ b. b == 10) text)
-first_events number vars text = events_lines (first number vars) text refl ∙ ap (lines_bring number vars 0 false) (onto_none (slice_split (λ b. b == 10) text))
+pub first_events : (number vars : ℕ) (text : List ℕ)
+    → events (first number vars) text ≡ lines_bring number vars 0 false (slice_split (λ b. b == 10) text)
+first_events number vars text = events_lines (first number vars) text refl
+    ∙ ap (lines_bring number vars 0 false) (onto_none (slice_split (λ b. b == 10) text))
 
 -- a call whose answer and reader are those of the definition
-pub feed_is : (r new : Reader) (piece : List ℕ) (fed : Fed) → fed ≡ fed_of r.bad r piece → new ≡ after_feed r.bad r piece → IsFed r piece new fed
+pub feed_is : (r new : Reader) (piece : List ℕ) (fed : Fed) → fed ≡ fed_of r.bad r piece → new ≡ after_feed r.bad r piece
+    → IsFed r piece new fed
 feed_is r new piece fed told is =
-    subst (λ (f : Fed). IsFed r piece new f) (sym told) (subst (λ (t : Reader). IsFed r piece t (fed_of r.bad r piece)) (sym is) (feed_law r piece))
+    subst (λ (f : Fed). IsFed r piece new f) (sym told)
+    (subst (λ (t : Reader). IsFed r piece t (fed_of r.bad r piece)) (sym is) (feed_law r piece))
 
 -- memory was refused after a call just where it was before
 pub feed_fails : (r : Reader) (piece : List ℕ) → (after_good r piece).failed ≡ r.failed

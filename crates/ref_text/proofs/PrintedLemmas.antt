@@ -30,17 +30,21 @@ word_first word rest value pass is =
     ∙ ap values_of (slice_split_at (λ b. b == 32) word 32 rest pass refl)
     ∙ ap (λ (o : Option Signed). with_value o (read rest)) is
 
-number_first : (n : ℕ) (rest : List ℕ) → n < 2 ^ 32 → read (number_word n ++ rest) ≡ with_value (Some (record { minus = false; size = n })) (read rest)
-number_first n rest small = word_first (decimal n) rest (record { minus = false; size = n }) (decimal_pass 32 n (omega arith) small) (decimal_read n small)
+number_first : (n : ℕ) (rest : List ℕ) → n < 2 ^ 32
+    → read (number_word n ++ rest) ≡ with_value (Some (record { minus = false; size = n })) (read rest)
+number_first n rest small =
+    word_first (decimal n) rest (record { minus = false; size = n }) (decimal_pass 32 n (omega arith) small) (decimal_read n small)
 
 literal_first : (z : ℤ) (rest : List ℕ) → var_of z < 2 ^ 32 → read (literal_word z ++ rest) ≡ with_value (Some (signed_of z)) (read rest)
-literal_first z rest small = word_first (signed_decimal z) rest (signed_of z) (literal_pass 32 z (omega arith) small) (literal_read z small)
+literal_first z rest small =
+    word_first (signed_decimal z) rest (signed_of z) (literal_pass 32 z (omega arith) small) (literal_read z small)
 
 -- the value of a number without a sign
 abbrev unsigned : ℕ → Signed
 unsigned n = record { minus = false; size = n }
 
-onto_cons : (value : Signed) (values : List Signed) (o : Option (List Signed)) → with_value (Some value) (onto values o) ≡ onto (value ∷ values) o
+onto_cons : (value : Signed) (values : List Signed) (o : Option (List Signed))
+    → with_value (Some value) (onto values o) ≡ onto (value ∷ values) o
 onto_cons value values None = refl
 onto_cons value values (Some more) = refl
 
@@ -64,7 +68,8 @@ numbers_first (n ∷ ns) rest all =
 
 -- a line's text without its LF
 abbrev body_of : ℕ → Line → List ℕ
-body_of number line = number_word number ++ (flat_map literal_word line.clause ++ (codes "0 " ++ (flat_map number_word line.hints ++ codes "0")))
+body_of number line =
+    number_word number ++ (flat_map literal_word line.clause ++ (codes "0 " ++ (flat_map number_word line.hints ++ codes "0")))
 
 -- the 0 at the end
 last_zero : read (codes "0") ≡ Some (unsigned 0 ∷ [])
@@ -87,10 +92,13 @@ body_read : (number : ℕ) (line : Line) → CanBeRead number line → read (bod
 body_read number line can =
     let hints : read (flat_map number_word line.hints ++ codes "0") ≡ Some (map unsigned line.hints ++ (unsigned 0 ∷ [])) =
     numbers_first line.hints (codes "0") can.hints ∙ ap (onto (map unsigned line.hints)) last_zero in
-    let behind : read (codes "0 " ++ (flat_map number_word line.hints ++ codes "0")) ≡ Some (unsigned 0 ∷ (map unsigned line.hints ++ (unsigned 0 ∷ []))) =
+    let behind : read (codes "0 " ++ (flat_map number_word line.hints ++ codes "0")) ≡ Some
+    (unsigned 0 ∷ (map unsigned line.hints ++ (unsigned 0 ∷ []))) =
     middle_zero (flat_map number_word line.hints ++ codes "0") ∙ ap (with_value (Some (unsigned 0))) hints in
     number_first number (flat_map literal_word line.clause ++ (codes "0 " ++ (flat_map number_word line.hints ++ codes "0"))) can.small
-    ∙ ap (with_value (Some (unsigned number))) (literals_first line.clause (codes "0 " ++ (flat_map number_word line.hints ++ codes "0")) can.literals ∙ ap (onto (map signed_of line.clause)) behind)
+    ∙ ap (with_value (Some (unsigned number)))
+    (literals_first line.clause (codes "0 " ++ (flat_map number_word line.hints ++ codes "0")) can.literals
+    ∙ ap (onto (map signed_of line.clause)) behind)
 
 -- the first 0 behind values that are not 0
 record Cut (values rest : List Signed) : Type 0 where
@@ -98,7 +106,8 @@ record Cut (values rest : List Signed) : Type 0 where
   pub front : before_first is_zero (values ++ unsigned 0 ∷ rest) ≡ values
   pub back : after_first is_zero (values ++ unsigned 0 ∷ rest) ≡ rest
 
-place_of : (values rest : List Signed) → All (λ v. is_zero v ≡ false) values → position_or_len is_zero (values ++ unsigned 0 ∷ rest) ≡ length values
+place_of : (values rest : List Signed) → All (λ v. is_zero v ≡ false) values
+    → position_or_len is_zero (values ++ unsigned 0 ∷ rest) ≡ length values
 place_of [] rest all = refl
 place_of (v ∷ vs) rest all =
     let first : is_zero v ≡ false = all 0 v (omega arith) in
@@ -124,7 +133,8 @@ cut values rest all =
     record {
       there = rw at (grind (arith, nat_tests));
       front = ap (λ (n : ℕ). take n (values ++ unsigned 0 ∷ rest)) at ∙ take_front values (unsigned 0 ∷ rest);
-      back = ap (λ (n : ℕ). drop (n + 1) (values ++ unsigned 0 ∷ rest)) at ∙ ap (λ (n : ℕ). drop n (values ++ unsigned 0 ∷ rest)) (add-one (length values)) ∙ drop_front values (unsigned 0) rest;
+      back = ap (λ (n : ℕ). drop (n + 1) (values ++ unsigned 0 ∷ rest)) at
+          ∙ ap (λ (n : ℕ). drop n (values ++ unsigned 0 ∷ rest)) (add-one (length values)) ∙ drop_front values (unsigned 0) rest;
     }
 
 signed_above : (zs : List ℤ) → All (λ z. (0 < var_of z) × (var_of z < 2 ^ 32)) zs → All (λ v. is_zero v ≡ false) (map signed_of zs)
@@ -165,7 +175,8 @@ chosen true true false d w h i j k = cc
 chosen true false c d w h i j k = cc
 chosen false b c d w h i j k = cc
 
-values_written : (number : ℕ) (line : Line) → CanBeRead number line → written_in (Some (values number line)) ≡ Some (record { number = number; line = line })
+values_written : (number : ℕ) (line : Line) → CanBeRead number line
+    → written_in (Some (values number line)) ≡ Some (record { number = number; line = line })
 values_written number line can =
     let literals = map signed_of line.clause in
     let hints = map unsigned line.hints in
@@ -178,9 +189,11 @@ values_written number line can =
     let end : (length (after_first is_zero (after_first is_zero all)) == 0) ≡ true =
     ap (λ (vs : List Signed). length (after_first is_zero vs) == 0) back ∙ ap (λ (vs : List Signed). length vs == 0) second.back in
     let front : before_first is_zero (after_first is_zero all) ≡ hints = ap (before_first is_zero) back ∙ second.front in
-    let plain : list_all is_plain (before_first is_zero (after_first is_zero all)) ≡ true = ap (list_all is_plain) front ∙ all_plain line.hints in
+    let plain : list_all is_plain (before_first is_zero (after_first is_zero all)) ≡ true = ap (list_all is_plain) front
+    ∙ all_plain line.hints in
     chosen _ _ _ _ _ first.there there end plain
-    ∙ ap (λ (zs : List ℤ). Some (record { number = number; line = record { clause = zs; hints = map size_of (before_first is_zero (after_first is_zero all)) } }))
+    ∙ ap (λ (zs : List ℤ). Some
+    (record { number = number; line = record { clause = zs; hints = map size_of (before_first is_zero (after_first is_zero all)) } }))
     (ap (map literal_of) first.front ∙ literals_back line.clause)
     ∙ ap (λ (hs : List ℕ). Some (record { number = number; line = record { clause = line.clause; hints = hs } }))
     (ap (map size_of) front ∙ sizes_back line.hints)
@@ -190,20 +203,24 @@ one_byte : (b : ℕ) → (b == 10) ≡ false → All (λ b. (b == 10) ≡ false)
 one_byte b h zero d lt = h
 one_byte b h (suc k) d lt = absurd (omega arith)
 
-literals_pass : (zs : List ℤ) → All (λ z. (0 < var_of z) × (var_of z < 2 ^ 32)) zs → All (λ b. (b == 10) ≡ false) (flat_map literal_word zs)
+literals_pass : (zs : List ℤ) → All (λ z. (0 < var_of z) × (var_of z < 2 ^ 32)) zs
+    → All (λ b. (b == 10) ≡ false) (flat_map literal_word zs)
 literals_pass [] all = All-nil (λ b. (b == 10) ≡ false)
 literals_pass (z ∷ zs) all =
     All-append (λ b. (b == 10) ≡ false) (literal_word z) (flat_map literal_word zs)
-    (All-append (λ b. (b == 10) ≡ false) (signed_decimal z) (codes " ") (literal_pass 10 z (omega arith) (all 0 z (omega arith)).1) (one_byte 32 refl))
+    (All-append (λ b. (b == 10) ≡ false) (signed_decimal z) (codes " ") (literal_pass 10 z (omega arith) (all 0 z (omega arith)).1)
+    (one_byte 32 refl))
     (literals_pass zs (λ k d lt. all (suc k) d (omega arith)))
 
 number_passes : (n : ℕ) → n < 2 ^ 32 → All (λ b. (b == 10) ≡ false) (number_word n)
-number_passes n small = All-append (λ b. (b == 10) ≡ false) (decimal n) (codes " ") (decimal_pass 10 n (omega arith) small) (one_byte 32 refl)
+number_passes n small =
+    All-append (λ b. (b == 10) ≡ false) (decimal n) (codes " ") (decimal_pass 10 n (omega arith) small) (one_byte 32 refl)
 
 numbers_pass : (ns : List ℕ) → All (λ n. (0 < n) × (n < 2 ^ 32)) ns → All (λ b. (b == 10) ≡ false) (flat_map number_word ns)
 numbers_pass [] all = All-nil (λ b. (b == 10) ≡ false)
 numbers_pass (n ∷ ns) all =
-    All-append (λ b. (b == 10) ≡ false) (number_word n) (flat_map number_word ns) (number_passes n (all 0 n (omega arith)).1) (numbers_pass ns (λ k d lt. all (suc k) d (omega arith)))
+    All-append (λ b. (b == 10) ≡ false) (number_word n) (flat_map number_word ns) (number_passes n (all 0 n (omega arith)).1)
+    (numbers_pass ns (λ k d lt. all (suc k) d (omega arith)))
 
 zero_space : All (λ b. (b == 10) ≡ false) (codes "0 ")
 zero_space zero d lt = refl
@@ -213,8 +230,11 @@ zero_space (suc (suc k)) d lt = absurd (omega arith)
 body_passes : (number : ℕ) (line : Line) → CanBeRead number line → All (λ b. (b == 10) ≡ false) (body_of number line)
 body_passes number line can =
     let P : ℕ → Type 0 = λ b. (b == 10) ≡ false in
-    All-append P (number_word number) (flat_map literal_word line.clause ++ (codes "0 " ++ (flat_map number_word line.hints ++ codes "0"))) (number_passes number can.small)
-    (All-append P (flat_map literal_word line.clause) (codes "0 " ++ (flat_map number_word line.hints ++ codes "0")) (literals_pass line.clause can.literals)
+    All-append P (number_word number)
+    (flat_map literal_word line.clause ++ (codes "0 " ++ (flat_map number_word line.hints ++ codes "0")))
+    (number_passes number can.small)
+    (All-append P (flat_map literal_word line.clause) (codes "0 " ++ (flat_map number_word line.hints ++ codes "0"))
+    (literals_pass line.clause can.literals)
     (All-append P (codes "0 ") (flat_map number_word line.hints ++ codes "0") zero_space
     (All-append P (flat_map number_word line.hints) (codes "0") (numbers_pass line.hints can.hints) (one_byte 48 refl))))
 

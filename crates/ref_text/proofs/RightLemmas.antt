@@ -15,12 +15,14 @@ use Rattle.ref_text.specs.Fault.{is_variable, are_literals, are_hints, written_f
 use Rattle.ref_text.specs.Fits.{IsRight}
 
 -- the sizes of the first values
-firsts_above : (values : List Signed) (n : ℕ) → ((k : ℕ) (d : Signed) → k < n → k < length values → 0 < (get_or values k d).size) → All (λ hint. 0 < hint) (map size_of (take n values))
+firsts_above : (values : List Signed) (n : ℕ) → ((k : ℕ) (d : Signed) → k < n → k < length values → 0 < (get_or values k d).size)
+    → All (λ hint. 0 < hint) (map size_of (take n values))
 firsts_above [] zero h k d lt = absurd (omega arith)
 firsts_above [] (suc n) h k d lt = absurd (omega arith)
 firsts_above (v ∷ values) zero h k d lt = absurd (omega arith)
 firsts_above (v ∷ values) (suc n) h zero d lt = h 0 v (omega arith) (omega arith)
-firsts_above (v ∷ values) (suc n) h (suc k) d lt = firsts_above values n (λ i e within there. h (suc i) e (omega arith) (omega arith)) k d (omega arith)
+firsts_above (v ∷ values) (suc n) h (suc k) d lt =
+    firsts_above values n (λ i e within there. h (suc i) e (omega arith) (omega arith)) k d (omega arith)
 
 -- the sizes before the first 0 are not 0
 sizes_before : (values : List Signed) → All (λ hint. 0 < hint) (map size_of (before_first is_zero values))
@@ -63,11 +65,13 @@ literals_above vars (z ∷ zs) h (suc k) d lt =
     let p = and_parts (is_variable vars (var_of z) && not (list_any (λ y. var_of y == var_of z) zs)) (are_literals vars zs) h in
     literals_above vars zs p.1 k d (omega arith)
 
-none_there : (v : ℕ) (zs : List ℤ) (k : ℕ) (d : ℤ) → k < length zs → not (list_any (λ y. var_of y == v) zs) ≡ true → var_of (get_or zs k d) ≢ v
+none_there : (v : ℕ) (zs : List ℤ) (k : ℕ) (d : ℤ) → k < length zs → not (list_any (λ y. var_of y == v) zs) ≡ true
+    → var_of (get_or zs k d) ≢ v
 none_there v [] k d lt h = absurd (omega arith)
 none_there v (z ∷ zs) zero d lt h = λ e.
     let same : (var_of z == v) ≡ true = grind (arith, nat_tests) in
-    let no : not (true || list_any (λ y. var_of y == v) zs) ≡ true = sym (ap (λ b. not (b || list_any (λ y. var_of y == v) zs)) same) ∙ h in
+    let no : not (true || list_any (λ y. var_of y == v) zs) ≡ true = sym (ap (λ b. not (b || list_any (λ y. var_of y == v) zs)) same)
+    ∙ h in
     cc
 none_there v (z ∷ zs) (suc k) d lt h = by (var_of z == v) h (λ e. none_there v zs k d (omega arith) e)
   where
@@ -89,10 +93,12 @@ literals_apart vars (z ∷ zs) h (suc i) (suc j) d lt in_j =
     let p = and_parts (is_variable vars (var_of z) && not (list_any (λ y. var_of y == var_of z) zs)) (are_literals vars zs) h in
     literals_apart vars zs p.1 i j d (omega arith) (omega arith)
 
-below_at : (number : ℕ) (hints : List ℕ) (k d : ℕ) → k < length hints → list_all (λ hint. nat_lt hint number) hints ≡ true → get_or hints k d < number
+below_at : (number : ℕ) (hints : List ℕ) (k d : ℕ) → k < length hints → list_all (λ hint. nat_lt hint number) hints ≡ true
+    → get_or hints k d < number
 below_at number [] k d lt h = absurd (omega arith)
 below_at number (x ∷ hints) zero d lt h = let p = and_parts (nat_lt x number) _ h in grind (arith, nat_tests)
-below_at number (x ∷ hints) (suc k) d lt h = let p = and_parts (nat_lt x number) (list_all (λ hint. nat_lt hint number) hints) h in below_at number hints k d (omega arith) p.1
+below_at number (x ∷ hints) (suc k) d lt h = let p = and_parts (nat_lt x number) (list_all (λ hint. nat_lt hint number) hints) h in
+    below_at number hints k d (omega arith) p.1
 
 -- what a line passed that is not refused
 pub record Passes (number vars : ℕ) (over : Bool) (written : Option Written) : Type 0 where
@@ -103,20 +109,25 @@ pub record Passes (number vars : ℕ) (over : Bool) (written : Option Written) :
   pub literals : are_literals vars w.line.clause ≡ true
   pub hints : are_hints w.number w.line.hints ≡ true
 
-pub fault_passes : (number vars : ℕ) (over : Bool) (written : Option Written) → written_fault number vars over written ≡ None → Passes number vars over written
+pub fault_passes : (number vars : ℕ) (over : Bool) (written : Option Written) → written_fault number vars over written ≡ None
+    → Passes number vars over written
 fault_passes number vars over None e = cc
 fault_passes number vars true (Some w) e = cc
-fault_passes number vars false (Some w) e = by (w.number == number) (are_literals vars w.line.clause) (are_hints w.number w.line.hints) refl refl refl e
+fault_passes number vars false (Some w) e =
+    by (w.number == number) (are_literals vars w.line.clause) (are_hints w.number w.line.hints) refl refl refl e
   where
     by : (a b c : Bool) → (w.number == number) ≡ a → are_literals vars w.line.clause ≡ b → are_hints w.number w.line.hints ≡ c →
-        (if not a then Some why.Number else if not b then Some why.Literal else if not c then Some why.Hint else None) ≡ None → Passes number vars false (Some w)
-    by true true true x y z h = record { w = w; there = refl; not_over = refl; numbered = grind (arith, nat_tests); literals = y; hints = z }
+        (if not a then Some why.Number else if not b then Some why.Literal else if not c then Some why.Hint else None) ≡ None
+        → Passes number vars false (Some w)
+    by true true true x y z h =
+        record { w = w; there = refl; not_over = refl; numbered = grind (arith, nat_tests); literals = y; hints = z }
     by true true false x y z h = cc
     by true false c x y z h = cc
     by false b c x y z h = cc
 
 -- a line that its text does not refuse is right
-pub text_right : (number vars : ℕ) (over : Bool) (line : List ℕ) → text_fault number vars over line ≡ None → IsRight number vars (line_of (form line))
+pub text_right : (number vars : ℕ) (over : Bool) (line : List ℕ) → text_fault number vars over line ≡ None
+    → IsRight number vars (line_of (form line))
 text_right number vars over line e =
     let p = fault_passes number vars over (form line) e in
     let both = and_parts (nat_lt 0 (length p.w.line.hints)) (list_all (λ hint. nat_lt hint p.w.number) p.w.line.hints) p.hints in
@@ -126,6 +137,9 @@ text_right number vars over line e =
       in_range = λ k d lt. (above k d lt).1;
       apart = literals_apart vars p.w.line.clause p.literals;
       some = grind (arith, nat_tests, both.0);
-      hints = λ k d lt. (form_hints line p.w p.there k d lt, subst (λ (n : ℕ). get_or p.w.line.hints k d < n) p.numbered (below_at p.w.number p.w.line.hints k d lt both.1));
+      hints = λ k d lt. (
+        form_hints line p.w p.there k d lt,
+        subst (λ (n : ℕ). get_or p.w.line.hints k d < n) p.numbered (below_at p.w.number p.w.line.hints k d lt both.1),
+      );
     } in
     subst (λ (o : Option Written). IsRight number vars (line_of o)) (sym p.there) right

@@ -19,10 +19,12 @@ onto_none (Some values) = refl
 pub values_of-drop : (words : List (List ℕ)) (n : ℕ) (word : List ℕ) → (n < length words) × (word ≡ get_or words n word) →
     values_of (drop n words) ≡ with_value (value_of word) (values_of (drop (n + 1) words))
 unfolding values_of
-values_of-drop words n word h = at_drop_more values_of words n word h.0 ∙ ap (λ w. with_value (value_of w) (values_of (drop (n + 1) words))) (sym h.1)
+values_of-drop words n word h = at_drop_more values_of words n word h.0
+    ∙ ap (λ w. with_value (value_of w) (values_of (drop (n + 1) words))) (sym h.1)
 
 -- a word that stands for nothing
-pub onto_nothing : (before : List Signed) (word : List ℕ) (rest : Option (List Signed)) → value_of word ≡ None → onto before (with_value (value_of word) rest) ≡ None
+pub onto_nothing : (before : List Signed) (word : List ℕ) (rest : Option (List Signed)) → value_of word ≡ None
+    → onto before (with_value (value_of word) rest) ≡ None
 onto_nothing before word rest e = ap (λ v. onto before (with_value v rest)) e
 
 -- a word that stands for something
@@ -40,7 +42,8 @@ unfolding values_of
 onto_end before = ap Some (append-nil before)
 
 -- a place that was found, or none
-pub found_or_none : (b : Bool) (place : ℕ) (r : Option ℕ) → r ≡ cond b (Some place) None → MatchOption r (b ≡ false) (λ found. (b ≡ true) × (found ≡ place))
+pub found_or_none : (b : Bool) (place : ℕ) (r : Option ℕ) → r ≡ cond b (Some place) None
+    → MatchOption r (b ≡ false) (λ found. (b ≡ true) × (found ≡ place))
 found_or_none true place None e = cc
 found_or_none true place (Some found) e = (refl, cc)
 found_or_none false place None e = refl

@@ -32,7 +32,8 @@ pub same_file : (old new : ShelfState) (name : List ℕ) → new.file ≡ old.fi
 same_file old new name same = ap (λ (file : List ℕ → Option (List ℕ)). file name) same
 
 -- files that were saved were saved from an earlier state on, and stay so up to a later one
-pub saved_between : (start old mid new : ShelfState) (files : List SavedFile) → GoesOn start old → old.file ≡ start.file → new.file ≡ mid.file →
+pub saved_between : (start old mid new : ShelfState) (files : List SavedFile) → GoesOn start old → old.file ≡ start.file
+    → new.file ≡ mid.file →
     IsSaved old mid files → IsSaved start new files
 saved_between start old mid new files goes_on same_before same_after saved = record {
   others = λ name none. same_file mid new name same_after ∙ saved.others name none ∙ same_file start old name same_before;
@@ -43,7 +44,8 @@ saved_between start old mid new files goes_on same_before same_after saved = rec
 pub failed_before : (start old new : ShelfState) (files : List SavedFile) (place : ℕ) → GoesOn start old → old.file ≡ start.file →
     FailedAt old new files place → FailedAt start new files place
 failed_before start old new files place goes_on same failure =
-    let P : (List ℕ → Option (List ℕ)) → Type 0 = λ file. IsPart (file failure.failed.name) (new.file failure.failed.name) failure.failed.bytes in
+    let P : (List ℕ → Option (List ℕ))
+    → Type 0 = λ file. IsPart (file failure.failed.name) (new.file failure.failed.name) failure.failed.bytes in
     record {
       failed = failure.failed;
       at = failure.at;

@@ -24,11 +24,13 @@ map_is_no_layout out e =
 
 map_is_no_image : (out : List ℕ) (i : ℕ) → map_name out ≢ image_name out i
 map_is_no_image out i e =
-    let letters : 109 ≡ 112 = ap letter_of (append_cancel_left out (codes ".map") (codes ".p" ++ (decimal i ++ codes ".bpnf")) e) in omega (arith, letters)
+    let letters : 109 ≡ 112 = ap letter_of (append_cancel_left out (codes ".map") (codes ".p" ++ (decimal i ++ codes ".bpnf")) e) in
+    omega (arith, letters)
 
 layout_is_no_image : (out : List ℕ) (i : ℕ) → layout_name out ≢ image_name out i
 layout_is_no_image out i e =
-    let letters : 108 ≡ 112 = ap letter_of (append_cancel_left out (codes ".lay") (codes ".p" ++ (decimal i ++ codes ".bpnf")) e) in omega (arith, letters)
+    let letters : 108 ≡ 112 = ap letter_of (append_cancel_left out (codes ".lay") (codes ".p" ++ (decimal i ++ codes ".bpnf")) e) in
+    omega (arith, letters)
 
 -- a name of an image tells its number
 same_image : (out : List ℕ) (i j : ℕ) → i < 2 ^ 64 → j < 2 ^ 64 → image_name out i ≡ image_name out j → i ≡ j
@@ -50,7 +52,8 @@ pub length_image_files : (out : List ℕ) (number : ℕ) (images : List (List �
 length_image_files out number [] = refl
 length_image_files out number (image ∷ images) = ap suc (length_image_files out (number + 1) images)
 
-image_within : (out : List ℕ) (images : List (List ℕ)) (i : ℕ) (x : SavedFile) → slice_get (image_files out 0 images) i ≡ Some x → i < length images
+image_within : (out : List ℕ) (images : List (List ℕ)) (i : ℕ) (x : SavedFile) → slice_get (image_files out 0 images) i ≡ Some x
+    → i < length images
 image_within out images i x at =
     let within = slice_get_within (image_files out 0 images) i x at in
     let count = length_image_files out 0 images in
@@ -59,10 +62,12 @@ image_within out images i x at =
 pub placed_apart : (out map layout : List ℕ) (images : List (List ℕ)) → length images ≤ 96 → AreApart (placed_files out map layout images)
 placed_apart out map layout images few zero zero x y less a b = λ e. omega (arith, less)
 placed_apart out map layout images few zero (suc zero) x y less a b = λ e. map_is_no_layout out (ap name_at a ∙ e ∙ sym (ap name_at b))
-placed_apart out map layout images few zero (suc (suc j)) x y less a b = λ e. map_is_no_image out (0 + j) (ap name_at a ∙ e ∙ name_of_image out 0 images j y b)
+placed_apart out map layout images few zero (suc (suc j)) x y less a b =
+    λ e. map_is_no_image out (0 + j) (ap name_at a ∙ e ∙ name_of_image out 0 images j y b)
 placed_apart out map layout images few (suc i) zero x y less a b = λ e. omega (arith, less)
 placed_apart out map layout images few (suc zero) (suc zero) x y less a b = λ e. omega (arith, less)
-placed_apart out map layout images few (suc zero) (suc (suc j)) x y less a b = λ e. layout_is_no_image out (0 + j) (ap name_at a ∙ e ∙ name_of_image out 0 images j y b)
+placed_apart out map layout images few (suc zero) (suc (suc j)) x y less a b =
+    λ e. layout_is_no_image out (0 + j) (ap name_at a ∙ e ∙ name_of_image out 0 images j y b)
 placed_apart out map layout images few (suc (suc i)) (suc zero) x y less a b = λ e. omega (arith, less)
 placed_apart out map layout images few (suc (suc i)) (suc (suc j)) x y less a b = λ e.
     let m = image_within out images i x a in
@@ -80,7 +85,8 @@ image_name_short out number few =
     let d = length-append (decimal number) (codes ".bpnf") in
     omega (arith, digits, a, b, d)
 
-pub placed_short : (out map layout : List ℕ) (images : List (List ℕ)) → length out ≤ 200 → length images ≤ 96 → AreShort (placed_files out map layout images)
+pub placed_short : (out map layout : List ℕ) (images : List (List ℕ)) → length out ≤ 200 → length images ≤ 96
+    → AreShort (placed_files out map layout images)
 placed_short out map layout images short few zero x at =
     let size = length-append out (codes ".map") in
     let name : map_name out ≡ x.name = ap name_at at in

@@ -13,13 +13,15 @@ whole_alone now name text whole zero x less at =
     subst (λ (file : SavedFile). now.file file.name ≡ Some file.bytes) is whole
 whole_alone now name text whole (suc i) x less at = let none : ⊥ = omega (arith, less) in absurd none
 
-pub written_is_saved : (old new : ShelfState) (name text : List ℕ) → IsWritten old new name text → IsSaved old new (file_of name text ∷ [])
+pub written_is_saved : (old new : ShelfState) (name text : List ℕ) → IsWritten old new name text
+    → IsSaved old new (file_of name text ∷ [])
 written_is_saved old new name text written = record {
   others = λ other none. written.only.others other (λ e. none 0 (file_of name text) (omega arith) refl (sym e));
   whole = λ told. whole_alone new name text (written.whole told);
 }
 
-pub unwritten_fails : (old new : ShelfState) (name text : List ℕ) → IsUnwritten old new name text → FailedAt old new (file_of name text ∷ []) 0
+pub unwritten_fails : (old new : ShelfState) (name text : List ℕ) → IsUnwritten old new name text
+    → FailedAt old new (file_of name text ∷ []) 0
 unwritten_fails old new name text unwritten = record {
   failed = file_of name text;
   at = refl;

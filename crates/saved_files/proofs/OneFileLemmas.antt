@@ -14,7 +14,8 @@ told_goes_on old new goes_on told = record {
 }
 
 -- what was written of one file and then of the same file
-pub writes_only_both : (start now new : ShelfState) (name : List ℕ) → WritesOnly start now name → WritesOnly now new name → WritesOnly start new name
+pub writes_only_both : (start now new : ShelfState) (name : List ℕ) → WritesOnly start now name → WritesOnly now new name
+    → WritesOnly start new name
 writes_only_both start now new name before after = record {
   goes_on = record {
     later = omega (arith, before.goes_on.later, after.goes_on.later);
@@ -30,7 +31,8 @@ writes_only_both start now new name before after = record {
 -- a prefix of a text is one of a longer text too
 longer_prefix : (text more : List ℕ) (n : ℕ) → (k : ℕ) × (take n text ≡ take k (text ++ more))
 longer_prefix text more n =
-    let both : take n text ++ (drop n text ++ more) ≡ text ++ more = sym (append_assoc (take n text) (drop n text) more) ∙ ap (λ (front : List ℕ). front ++ more) (take-append-drop n text) in
+    let both : take n text ++ (drop n text ++ more) ≡ text ++ more = sym (append_assoc (take n text) (drop n text) more)
+    ∙ ap (λ (front : List ℕ). front ++ more) (take-append-drop n text) in
     (length (take n text), sym (ap (take (length (take n text))) (sym both) ∙ take-append_seam (take n text) (drop n text ++ more)))
 
 pub part_of_longer : (old new : Option (List ℕ)) (text more : List ℕ) → IsPart old new text → IsPart old new (text ++ more)
@@ -40,7 +42,8 @@ part_of_longer old new text more (inr (n, is)) =
     inr (longer.0, is ∙ ap Some longer.1)
 
 -- a text that was not written is no part of a longer one either
-pub unwritten_longer : (start now : ShelfState) (name text more : List ℕ) → IsUnwritten start now name text → IsUnwritten start now name (text ++ more)
+pub unwritten_longer : (start now : ShelfState) (name text more : List ℕ) → IsUnwritten start now name text
+    → IsUnwritten start now name (text ++ more)
 unwritten_longer start now name text more unwritten = record {
   only = unwritten.only;
   rose = unwritten.rose;
@@ -54,7 +57,11 @@ part_grown : (old now new : Option (List ℕ)) (text piece : List ℕ) → now �
 part_grown old now new text piece whole (inl same) =
     inr (length text, same ∙ whole ∙ ap Some (sym (take-append_seam text piece)))
 part_grown old now new text piece whole (inr (n, is)) =
-    inr (length text + n, is ∙ ap (λ (front : List ℕ). Some (front ++ take n piece)) (ap bytes_or_empty whole) ∙ ap Some (sym (take-append-add text piece n)))
+    inr (
+      length text + n,
+      is ∙ ap (λ (front : List ℕ). Some (front ++ take n piece)) (ap bytes_or_empty whole)
+          ∙ ap Some (sym (take-append-add text piece n)),
+    )
 
 -- an append failed after this text was written
 pub unwritten_grown : (start now new : ShelfState) (name text piece : List ℕ) → IsWritten start now name text → WritesOnly now new name →
@@ -65,5 +72,6 @@ unwritten_grown start now new name text piece written only rose named prefix = r
   only = writes_only_both start now new name written.only only;
   rose = omega (arith, rose, written.only.goes_on.later);
   last_failed = named;
-  part = λ told. part_grown (start.file name) (now.file name) (new.file name) text piece (written.whole told) (prefix (told_goes_on start now written.only.goes_on told));
+  part = λ told. part_grown (start.file name) (now.file name) (new.file name) text piece (written.whole told)
+      (prefix (told_goes_on start now written.only.goes_on told));
 }

@@ -19,15 +19,18 @@ image_file_at out number (first ∷ images) (suc i) image at =
     let e : number + 1 + i ≡ number + suc i = omega arith in
     image_file_at out (number + 1) images i image at ∙ ap (λ (n : ℕ). Some (file_of (image_name out n) image)) e
 
-pub map_stands : (old new : ShelfState) (out map layout : List ℕ) (images : List (List ℕ)) → IsTold old → IsSaved old new (placed_files out map layout images) →
+pub map_stands : (old new : ShelfState) (out map layout : List ℕ) (images : List (List ℕ)) → IsTold old
+    → IsSaved old new (placed_files out map layout images) →
     new.file (map_name out) ≡ Some map
 map_stands old new out map layout images told saved = saved.whole told 0 (file_of (map_name out) map) (omega arith) refl
 
-pub layout_stands : (old new : ShelfState) (out map layout : List ℕ) (images : List (List ℕ)) → IsTold old → IsSaved old new (placed_files out map layout images) →
+pub layout_stands : (old new : ShelfState) (out map layout : List ℕ) (images : List (List ℕ)) → IsTold old
+    → IsSaved old new (placed_files out map layout images) →
     new.file (layout_name out) ≡ Some layout
 layout_stands old new out map layout images told saved = saved.whole told 1 (file_of (layout_name out) layout) (omega arith) refl
 
-pub image_stands : (old new : ShelfState) (out map layout : List ℕ) (images : List (List ℕ)) → IsTold old → IsSaved old new (placed_files out map layout images) →
+pub image_stands : (old new : ShelfState) (out map layout : List ℕ) (images : List (List ℕ)) → IsTold old
+    → IsSaved old new (placed_files out map layout images) →
     (number : ℕ) (image : List ℕ) → slice_get images number ≡ Some image → new.file (image_name out number) ≡ Some image
 image_stands old new out map layout images told saved number image at =
     let within = slice_get_within images number image at in

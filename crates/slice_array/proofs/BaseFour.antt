@@ -17,11 +17,15 @@ pow4 n = mul-pow 2 2 n ∙ sym (pow-add 2 n n)
 
 -- the exclusive or of numbers of n digits has n digits
 pub xor_below : (n a b : ℕ) → a < 4 ^ n → b < 4 ^ n → bit_xor a b < 4 ^ n
-xor_below n a b p q = subst (λ (l : ℕ). bit_xor a b < l) (sym (pow4 n)) (xor_lt (n + n) a b (subst (λ (l : ℕ). a < l) (pow4 n) p) (subst (λ (l : ℕ). b < l) (pow4 n) q))
+xor_below n a b p q =
+    subst (λ (l : ℕ). bit_xor a b < l) (sym (pow4 n))
+    (xor_lt (n + n) a b (subst (λ (l : ℕ). a < l) (pow4 n) p) (subst (λ (l : ℕ). b < l) (pow4 n) q))
 
 -- the or of numbers of n digits has n digits
 pub or_below : (n a b : ℕ) → a < 4 ^ n → b < 4 ^ n → bit_or a b < 4 ^ n
-or_below n a b p q = subst (λ (l : ℕ). bit_or a b < l) (sym (pow4 n)) (or_lt (n + n) a b (subst (λ (l : ℕ). a < l) (pow4 n) p) (subst (λ (l : ℕ). b < l) (pow4 n) q))
+or_below n a b p q =
+    subst (λ (l : ℕ). bit_or a b < l) (sym (pow4 n))
+    (or_lt (n + n) a b (subst (λ (l : ℕ). a < l) (pow4 n) p) (subst (λ (l : ℕ). b < l) (pow4 n) q))
 
 -- an and of numbers is made digit by digit
 pub and_digits : (a b r s : ℕ) → r < 4 → s < 4 → bit_and (a * 4 + r) (b * 4 + s) ≡ bit_and a b * 4 + bit_and r s
@@ -66,7 +70,14 @@ low_digits j a r h =
 pub sum_carry_digits : (a b r s c j : ℕ) → r < 4 → s < 4 → sum_carry (a * 4 + r) (b * 4 + s) c (suc j) ≡ sum_carry a b ((r + s + c) / 4) j
 unfolding sum_carry
 sum_carry_digits a b r s c j p q =
-    rw (low_digits j a r p, low_digits j b s q, pow-suc, mul_comm (4 ^ j) 4, ← div-div-eq-div-mul (a % 4 ^ j * 4 + r + (b % 4 ^ j * 4 + s) + c) 4 (4 ^ j), div4)
+    rw (
+      low_digits j a r p,
+      low_digits j b s q,
+      pow-suc,
+      mul_comm (4 ^ j) 4,
+      ← div-div-eq-div-mul (a % 4 ^ j * 4 + r + (b % 4 ^ j * 4 + s) + c) 4 (4 ^ j),
+      div4,
+    )
 
 -- any bit of a number is any bit of its lowest digit or of the rest
 or_step : (x r c : ℕ) → any_bit (c + (x * 4 + r)) ≡ any_bit (any_bit (c + r) + x)
@@ -78,11 +89,13 @@ unfolding or_carry
 or_carry_digits t r c j p = rw (low_digits j t r p) (or_step (t % 4 ^ j) r c)
 
 -- sum_digits, where the carry between has a name
-pub sum_digits_by : (n a b r s c x : ℕ) → x ≡ (r + s + c) / 4 → (a * 4 + r + (b * 4 + s) + c) % 4 ^ suc n ≡ (a + b + x) % 4 ^ n * 4 + (r + s + c) % 4
+pub sum_digits_by : (n a b r s c x : ℕ) → x ≡ (r + s + c) / 4
+    → (a * 4 + r + (b * 4 + s) + c) % 4 ^ suc n ≡ (a + b + x) % 4 ^ n * 4 + (r + s + c) % 4
 sum_digits_by n a b r s c x e = sum_digits n a b r s c ∙ ap (λ (y : ℕ). (a + b + y) % 4 ^ n * 4 + (r + s + c) % 4) (sym e)
 
 -- sum_carry_digits, where the carry between has a name
-pub sum_carry_by : (a b r s c x i j : ℕ) → r < 4 → s < 4 → x ≡ (r + s + c) / 4 → i ≡ suc j → sum_carry (a * 4 + r) (b * 4 + s) c i ≡ sum_carry a b x j
+pub sum_carry_by : (a b r s c x i j : ℕ) → r < 4 → s < 4 → x ≡ (r + s + c) / 4 → i ≡ suc j
+    → sum_carry (a * 4 + r) (b * 4 + s) c i ≡ sum_carry a b x j
 sum_carry_by a b r s c x i j p q e f = rw (f, e) (sum_carry_digits a b r s c j p q)
 
 -- or_carry_digits, where the or between has a name
@@ -95,7 +108,9 @@ div4_lt n x h = omega (arith, pow-suc 4 n)
 
 -- to drop j digits and then one is to drop j + 1
 pub further : (x j : ℕ) → x / 4 ^ j / 4 ≡ x / 4 ^ (j + 1)
-further x j = div-div-eq-div-mul x (4 ^ j) 4 ∙ ap (λ (y : ℕ). x / y) (let e : 4 ^ j * 4 ≡ 4 ^ (j + 1) = sym (ap (λ (i : ℕ). 4 ^ i) (let k : j + 1 ≡ suc j = omega arith in k) ∙ pow-suc 4 j) in e)
+further x j = div-div-eq-div-mul x (4 ^ j) 4
+    ∙ ap (λ (y : ℕ). x / y)
+    (let e : 4 ^ j * 4 ≡ 4 ^ (j + 1) = sym (ap (λ (i : ℕ). 4 ^ i) (let k : j + 1 ≡ suc j = omega arith in k) ∙ pow-suc 4 j) in e)
 
 -- two bits read by a shift and a mask are a base-4 digit
 pub two_shift : (x j : ℕ) → bit_and (x / 2 ^ (2 * j)) 3 ≡ x / 4 ^ j % 4

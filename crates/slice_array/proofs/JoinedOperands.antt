@@ -38,7 +38,8 @@ pub ten_each : (p : Inputs) (s : Registers) (n : ℕ) (q : Inputs) (w : Register
 ten_each p s n q w d h = d.registers.ten ∙ sym h.registers.ten
 
 -- a number put among joined numbers is put among digits and among the rest
-set_join_list : (ds ws : List ℕ) (n d v : ℕ) → length ds ≡ length ws → put_at (join_list ds ws) n (v * 4 + d) ≡ join_list (put_at ds n d) (put_at ws n v)
+set_join_list : (ds ws : List ℕ) (n d v : ℕ) → length ds ≡ length ws
+    → put_at (join_list ds ws) n (v * 4 + d) ≡ join_list (put_at ds n d) (put_at ws n v)
 set_join_list [] [] n d v e = refl
 set_join_list [] (w ∷ ws) n d v e = absurd (omega arith)
 set_join_list (x ∷ ds) [] n d v e = absurd (omega arith)
@@ -52,7 +53,8 @@ get_join s w T e = refl
 get_join s w Ac e = refl
 
 -- a value put into a register of the join
-pub set_join : (s w : Registers) (reg : Reg) (d v : ℕ) → length s.r ≡ length w.r → set (join s w) reg (v * 4 + d) ≡ join (set s reg d) (set w reg v)
+pub set_join : (s w : Registers) (reg : Reg) (d v : ℕ) → length s.r ≡ length w.r
+    → set (join s w) reg (v * 4 + d) ≡ join (set s reg d) (set w reg v)
 set_join s w (R n) d v e = ap (λ l. record (join s w) { r = l }) (set_join_list s.r w.r n d v e)
 set_join s w T d v e = refl
 set_join s w Ac d v e = refl
@@ -62,7 +64,9 @@ pub source_word_join : (code n : ℕ) (p q : Inputs) (s w : Registers) → IsDig
     → source_word code (q.m * 4 + p.m) (join s w) ≡ source_word code q.m w * 4 + source_word code p.m s
 unfolding source_word
 source_word_join code n p q s w d h =
-    elim (group_of code == 2) as (λ g. (if g then q.m * 4 + p.m else get (join s w) (register_of code)) ≡ (if g then q.m else get w (register_of code)) * 4 + (if g then p.m else get s (register_of code)))
+    elim (group_of code == 2) as
+    (λ g. (if g then q.m * 4 + p.m else get (join s w) (register_of code)) ≡ (if g then q.m else get w (register_of code))
+    * 4 + (if g then p.m else get s (register_of code)))
     [ true ↦ refl | false ↦ get_join s w (register_of code) (ten_each p s n q w d h) ]
 
 -- the masked word
@@ -70,12 +74,15 @@ pub masked_word_join : (code n : ℕ) (p q : Inputs) (s w : Registers) → IsDig
     → masked_word code (q.k * 4 + p.k) (q.i * 4 + p.i) (join s w) ≡ masked_word code q.k q.i w * 4 + masked_word code p.k p.i s
 unfolding masked_word
 masked_word_join code n p q s w d =
-    elim (group_of code == 3) as (λ g. bit_and (if g then q.i * 4 + p.i else w.ac * 4 + s.ac) (q.k * 4 + p.k) ≡ bit_and (if g then q.i else w.ac) q.k * 4 + bit_and (if g then p.i else s.ac) p.k)
+    elim (group_of code == 3) as
+    (λ g. bit_and (if g then q.i * 4 + p.i else w.ac * 4 + s.ac) (q.k * 4 + p.k) ≡ bit_and (if g then q.i else w.ac) q.k * 4 + bit_and
+    (if g then p.i else s.ac) p.k)
     [ true ↦ and_digits q.i q.k p.i p.k d.i d.k | false ↦ and_digits w.ac q.k s.ac p.k d.registers.ac d.k ]
 
 -- a register R is below the limit, also past the tenth
 index_below : (xs : List ℕ) (n limit : ℕ) → 0 < limit → All (λ x. x < limit) xs → get_or xs n 0 < limit
-index_below xs n limit h a = elim (cases_lt n (length xs)) [ inl p ↦ All-get_or (λ (x : ℕ). x < limit) xs n 0 p a | inr p ↦ rw (get_or-eq_default xs 0 p) h ]
+index_below xs n limit h a =
+    elim (cases_lt n (length xs)) [ inl p ↦ All-get_or (λ (x : ℕ). x < limit) xs n 0 p a | inr p ↦ rw (get_or-eq_default xs 0 p) h ]
 
 -- a register is below the limit
 get_below : (limit : ℕ) (w : Registers) (reg : Reg) → 0 < limit → AllBelow limit w → get w reg < limit
@@ -87,7 +94,8 @@ get_below limit w Ac h a = a.ac
 pub source_word_below : (limit code m : ℕ) (w : Registers) → 0 < limit → m < limit → AllBelow limit w → source_word code m w < limit
 unfolding source_word
 source_word_below limit code m w h p a =
-    elim (group_of code == 2) as (λ g. (if g then m else get w (register_of code)) < limit) [ true ↦ p | false ↦ get_below limit w (register_of code) h a ]
+    elim (group_of code == 2) as (λ g. (if g then m else get w (register_of code)) < limit)
+    [ true ↦ p | false ↦ get_below limit w (register_of code) h a ]
 
 -- the masked word is below the limit
 pub masked_word_below : (limit code k i : ℕ) (w : Registers) → 0 < limit → k < limit → masked_word code k i w < limit
@@ -100,12 +108,14 @@ pub operand_a_join : (code n : ℕ) (p q : Inputs) (s w : Registers) → IsDigit
 unfolding operand_a
 operand_a_join code n p q s w d h =
     rw (top_digits n, source_word_join code n p q s w d h, masked_word_join code n p q s w d)
-    (by_cases (function_of code == 1) (group_of code == 3) (function_of code == 2) (source_word code q.m w) (source_word code p.m s) (masked_word code q.k q.i w) (masked_word code p.k p.i s)
+    (by_cases (function_of code == 1) (group_of code == 3) (function_of code == 2) (source_word code q.m w) (source_word code p.m s)
+    (masked_word code q.k q.i w) (masked_word code p.k p.i s)
     (source_word_below 4 code p.m s (omega arith) d.m d.registers)
     (let lt : source_word code q.m w < 4 ^ n = source_word_below (4 ^ n) code q.m w (pow4_pos n) h.m h.registers in omega arith))
   where
     by_cases : (f1 g3 f2 : Bool) (x y u v : ℕ) → y < 4 → x ≤ 4 ^ n - 1
-        → (if f1 then if g3 then bit_or ((4 ^ n - 1) * 4 + 3 - (x * 4 + y)) (q.k * 4 + p.k) else x * 4 + y else if f2 then u * 4 + v else x * 4 + y)
+        → (if f1 then if g3 then bit_or ((4 ^ n - 1) * 4 + 3 - (x * 4 + y)) (q.k * 4 + p.k)
+        else x * 4 + y else if f2 then u * 4 + v else x * 4 + y)
         ≡ (if f1 then if g3 then bit_or (4 ^ n - 1 - x) q.k else x else if f2 then u else x) * 4
         + (if f1 then if g3 then bit_or (3 - y) p.k else y else if f2 then v else y)
     by_cases true true f2 x y u v ys xs =
@@ -121,11 +131,13 @@ pub operand_b_join : (code n : ℕ) (p q : Inputs) (s w : Registers) → IsDigit
 unfolding operand_b
 operand_b_join code n p q s w d h =
     rw (top_digits n, source_word_join code n p q s w d h, masked_word_join code n p q s w d)
-    (by_cases (function_of code == 1) (group_of code == 3) (function_of code == 2) (source_word code q.m w) (source_word code p.m s) (masked_word code q.k q.i w) (masked_word code p.k p.i s)
+    (by_cases (function_of code == 1) (group_of code == 3) (function_of code == 2) (source_word code q.m w) (source_word code p.m s)
+    (masked_word code q.k q.i w) (masked_word code p.k p.i s)
     (source_word_below 4 code p.m s (omega arith) d.m d.registers))
   where
     by_cases : (f1 g3 f2 : Bool) (x y u v : ℕ) → y < 4
-        → (if f1 then if g3 then bit_and (x * 4 + y) (q.k * 4 + p.k) else q.k * 4 + p.k else if f2 then (4 ^ n - 1) * 4 + 3 else u * 4 + v)
+        → (if f1 then if g3 then bit_and (x * 4 + y) (q.k * 4 + p.k) else q.k * 4 + p.k else if f2 then (4 ^ n - 1)
+        * 4 + 3 else u * 4 + v)
         ≡ (if f1 then if g3 then bit_and x q.k else q.k else if f2 then 4 ^ n - 1 else u) * 4
         + (if f1 then if g3 then bit_and y p.k else p.k else if f2 then 3 else v)
     by_cases true true f2 x y u v ys = and_digits x q.k y p.k ys d.k
@@ -139,12 +151,14 @@ pub logic_word_join : (code n : ℕ) (p q : Inputs) (s w : Registers) → IsDigi
 unfolding logic_word
 logic_word_join code n p q s w d h =
     rw (top_digits n, source_word_join code n p q s w d h, masked_word_join code n p q s w d)
-    (by_cases (function_of code == 4) (function_of code == 5) (function_of code == 6) (source_word code q.m w) (source_word code p.m s) (masked_word code q.k q.i w) (masked_word code p.k p.i s)
+    (by_cases (function_of code == 4) (function_of code == 5) (function_of code == 6) (source_word code q.m w) (source_word code p.m s)
+    (masked_word code q.k q.i w) (masked_word code p.k p.i s)
     (source_word_below 4 code p.m s (omega arith) d.m d.registers) (masked_word_below 4 code p.k p.i s (omega arith) d.k)
     (source_word_below (4 ^ n) code q.m w (pow4_pos n) h.m h.registers) (masked_word_below (4 ^ n) code q.k q.i w (pow4_pos n) h.k))
   where
     by_cases : (f4 f5 f6 : Bool) (x y u v : ℕ) → y < 4 → v < 4 → x < 4 ^ n → u < 4 ^ n
-        → (if f4 then bit_and (x * 4 + y) (u * 4 + v) else if f5 then bit_and (q.k * 4 + p.k) (x * 4 + y) else if f6 then bit_or (x * 4 + y) (u * 4 + v)
+        → (if f4 then bit_and (x * 4 + y) (u * 4 + v) else if f5 then bit_and (q.k * 4 + p.k) (x * 4 + y) else if f6 then bit_or
+        (x * 4 + y) (u * 4 + v)
         else ((4 ^ n - 1) * 4 + 3) - bit_xor (x * 4 + y) (u * 4 + v))
         ≡ (if f4 then bit_and x u else if f5 then bit_and q.k x else if f6 then bit_or x u else (4 ^ n - 1) - bit_xor x u) * 4
         + (if f4 then bit_and y v else if f5 then bit_and p.k y else if f6 then bit_or y v else 3 - bit_xor y v)
@@ -161,12 +175,14 @@ pub test_word_join : (code n : ℕ) (p q : Inputs) (s w : Registers) → IsDigit
 unfolding test_word
 test_word_join code n p q s w d h =
     rw (source_word_join code n p q s w d h, masked_word_join code n p q s w d)
-    (by_cases (function_of code == 5) (function_of code == 6) (source_word code q.m w) (source_word code p.m s) (masked_word code q.k q.i w) (masked_word code p.k p.i s)
+    (by_cases (function_of code == 5) (function_of code == 6) (source_word code q.m w) (source_word code p.m s)
+    (masked_word code q.k q.i w) (masked_word code p.k p.i s)
     (source_word_below 4 code p.m s (omega arith) d.m d.registers) (masked_word_below 4 code p.k p.i s (omega arith) d.k))
   where
     by_cases : (f5 f6 : Bool) (x y u v : ℕ) → y < 4 → v < 4
         → (if f5 then bit_and (q.k * 4 + p.k) (x * 4 + y) else if f6 then u * 4 + v else bit_and (x * 4 + y) (u * 4 + v))
-        ≡ (if f5 then bit_and q.k x else if f6 then u else bit_and x u) * 4 + (if f5 then bit_and p.k y else if f6 then v else bit_and y v)
+        ≡ (if f5 then bit_and q.k x else if f6 then u else bit_and x u)
+        * 4 + (if f5 then bit_and p.k y else if f6 then v else bit_and y v)
     by_cases true f6 x y u v ys vs = and_digits q.k x p.k y d.k ys
     by_cases false true x y u v ys vs = refl
     by_cases false false x y u v ys vs = and_digits x u y v ys vs
@@ -177,29 +193,39 @@ pub mar_after_join : (code n : ℕ) (p q : Inputs) (s w : Registers) → IsDigit
 unfolding mar_after
 mar_after_join code n p q s w d h =
     rw (source_word_join code n p q s w d h)
-    (by_cases (function_of code == 1 && not (group_of code == 3)) (source_word code q.m w) (source_word code p.m s) (source_word_below 4 code p.m s (omega arith) d.m d.registers))
+    (by_cases (function_of code == 1 && not (group_of code == 3)) (source_word code q.m w) (source_word code p.m s)
+    (source_word_below 4 code p.m s (omega arith) d.m d.registers))
   where
     by_cases : (f1 : Bool) (x y : ℕ) → y < 4
-        → (if f1 then bit_or (q.k * 4 + p.k) (x * 4 + y) else w.mar * 4 + s.mar) ≡ (if f1 then bit_or q.k x else w.mar) * 4 + (if f1 then bit_or p.k y else s.mar)
+        → (if f1 then bit_or (q.k * 4 + p.k) (x * 4 + y) else w.mar * 4 + s.mar) ≡ (if f1 then bit_or q.k x else w.mar)
+        * 4 + (if f1 then bit_or p.k y else s.mar)
     by_cases true x y ys = or_digits q.k x p.k y d.k ys
     by_cases false x y ys = refl
 
 -- the registers that take a result
-pub registers_after_join : (code d v : ℕ) (s w : Registers) → length s.r ≡ length w.r → registers_after code (v * 4 + d) (join s w) ≡ join (registers_after code d s) (registers_after code v w)
+pub registers_after_join : (code d v : ℕ) (s w : Registers) → length s.r ≡ length w.r
+    → registers_after code (v * 4 + d) (join s w) ≡ join (registers_after code d s) (registers_after code v w)
 unfolding registers_after
 registers_after_join code d v s w e =
     elim (function_of code == 0 && group_of code == 1)
-    as (λ g. (if g then record (set (join s w) (register_of code) (v * 4 + d)) { ac = v * 4 + d } else set (join s w) (register_of code) (v * 4 + d))
-    ≡ join (if g then record (set s (register_of code) d) { ac = d } else set s (register_of code) d) (if g then record (set w (register_of code) v) { ac = v } else set w (register_of code) v))
-    [ true ↦ ap (λ (o : Registers). record o { ac = v * 4 + d }) (set_join s w (register_of code) d v e) | false ↦ set_join s w (register_of code) d v e ]
+    as (λ g. (if g then record (set (join s w) (register_of code) (v * 4 + d)) { ac = v * 4 + d } else set (join s w) (register_of code)
+    (v * 4 + d))
+    ≡ join (if g then record (set s (register_of code) d) { ac = d } else set s (register_of code) d)
+    (if g then record (set w (register_of code) v) { ac = v } else set w (register_of code) v)) [
+      | true ↦ ap (λ (o : Registers). record o { ac = v * 4 + d }) (set_join s w (register_of code) d v e)
+      | false ↦ set_join s w
+          (register_of code) d v e
+    ]
 
 -- the first operand of a slice is one digit
 pub operand_a_below : (code : ℕ) (p : Inputs) (s : Registers) → IsDigits p s → operand_a 3 code p s < 4
 unfolding operand_a
-operand_a_below code p s d = by_cases (function_of code == 1) (group_of code == 3) (function_of code == 2) (source_word code p.m s) (masked_word code p.k p.i s)
+operand_a_below code p s d =
+    by_cases (function_of code == 1) (group_of code == 3) (function_of code == 2) (source_word code p.m s) (masked_word code p.k p.i s)
     (source_word_below 4 code p.m s (omega arith) d.m d.registers) (masked_word_below 4 code p.k p.i s (omega arith) d.k)
   where
-    by_cases : (f1 g3 f2 : Bool) (y v : ℕ) → y < 4 → v < 4 → (if f1 then if g3 then bit_or (3 - y) p.k else y else if f2 then v else y) < 4
+    by_cases : (f1 g3 f2 : Bool) (y v : ℕ) → y < 4 → v < 4
+        → (if f1 then if g3 then bit_or (3 - y) p.k else y else if f2 then v else y) < 4
     by_cases true true f2 y v ys vs = or_lt 2 (3 - y) p.k (let k : 3 - y < 4 = omega arith in k) d.k
     by_cases true false f2 y v ys vs = ys
     by_cases false g3 true y v ys vs = vs
@@ -208,7 +234,8 @@ operand_a_below code p s d = by_cases (function_of code == 1) (group_of code == 
 -- the second operand of a slice is one digit
 pub operand_b_below : (code : ℕ) (p : Inputs) (s : Registers) → IsDigits p s → operand_b 3 code p s < 4
 unfolding operand_b
-operand_b_below code p s d = by_cases (function_of code == 1) (group_of code == 3) (function_of code == 2) (source_word code p.m s) (masked_word code p.k p.i s)
+operand_b_below code p s d =
+    by_cases (function_of code == 1) (group_of code == 3) (function_of code == 2) (source_word code p.m s) (masked_word code p.k p.i s)
     (source_word_below 4 code p.m s (omega arith) d.m d.registers) (masked_word_below 4 code p.k p.i s (omega arith) d.k)
   where
     by_cases : (f1 g3 f2 : Bool) (y v : ℕ) → y < 4 → v < 4 → (if f1 then if g3 then bit_and y p.k else p.k else if f2 then 3 else v) < 4
@@ -220,7 +247,8 @@ operand_b_below code p s d = by_cases (function_of code == 1) (group_of code == 
 -- the test word of a slice is one digit
 pub test_word_below : (code : ℕ) (p : Inputs) (s : Registers) → IsDigits p s → test_word code p s < 4
 unfolding test_word
-test_word_below code p s d = by_cases (function_of code == 5) (function_of code == 6) (source_word code p.m s) (masked_word code p.k p.i s)
+test_word_below code p s d =
+    by_cases (function_of code == 5) (function_of code == 6) (source_word code p.m s) (masked_word code p.k p.i s)
     (source_word_below 4 code p.m s (omega arith) d.m d.registers) (masked_word_below 4 code p.k p.i s (omega arith) d.k)
   where
     by_cases : (f5 f6 : Bool) (y v : ℕ) → y < 4 → v < 4 → (if f5 then bit_and p.k y else if f6 then v else bit_and y v) < 4

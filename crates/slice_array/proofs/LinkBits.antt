@@ -32,7 +32,8 @@ shifted true y j e h = rw (e, one_shl j 32 (let k : j < 32 = omega arith in k)) 
 shifted false y j e h = rw e (omega arith)
 
 -- bit j is put above the links so far
-pub more_links : (links j y : ℕ) (co : Bool) (r : ℕ) → y ≡ bool_byte co → j < 16 → links + 2 ^ j * (bit co + 2 * r) ≡ (links + y * 2 ^ j % 4294967296) + 2 ^ (j + 1) * r
+pub more_links : (links j y : ℕ) (co : Bool) (r : ℕ) → y ≡ bool_byte co → j < 16
+    → links + 2 ^ j * (bit co + 2 * r) ≡ (links + y * 2 ^ j % 4294967296) + 2 ^ (j + 1) * r
 more_links links j y co r e h = rw (shifted co y j e h, twice j) (omega arith)
 
 -- then they are a number of j + 1 bits
@@ -44,11 +45,13 @@ more_small links j y co e h l = rw (shifted co y j e h, twice j) (at_most co)
     at_most false = omega arith
 
 -- bit i is put below the links so far
-pub fewer_links : (i y : ℕ) (ro : Bool) (r links : ℕ) → y ≡ bool_byte ro → i < 16 → 2 ^ (i + 1) * r ≡ links → 2 ^ i * (bit ro + 2 * r) ≡ links + y * 2 ^ i % 4294967296
+pub fewer_links : (i y : ℕ) (ro : Bool) (r links : ℕ) → y ≡ bool_byte ro → i < 16 → 2 ^ (i + 1) * r ≡ links
+    → 2 ^ i * (bit ro + 2 * r) ≡ links + y * 2 ^ i % 4294967296
 fewer_links i y ro r links e h l = rw (shifted ro y i e h, ← l, twice i) (omega arith)
 
 -- then they still fit 16 bits
-pub fewer_small : (i y : ℕ) (ro : Bool) (links : ℕ) → y ≡ bool_byte ro → i < 16 → links + 2 ^ (i + 1) ≤ 2 ^ 16 → links + y * 2 ^ i % 4294967296 + 2 ^ i ≤ 2 ^ 16
+pub fewer_small : (i y : ℕ) (ro : Bool) (links : ℕ) → y ≡ bool_byte ro → i < 16 → links + 2 ^ (i + 1) ≤ 2 ^ 16
+    → links + y * 2 ^ i % 4294967296 + 2 ^ i ≤ 2 ^ 16
 fewer_small i y ro links e h l = rw (shifted ro y i e h) (at_most ro)
   where
     at_most : (c : Bool) → links + bit c * 2 ^ i + 2 ^ i ≤ 2 ^ 16

@@ -29,8 +29,10 @@ pub record IsThrough (code : ℕ) (b : Inputs) (before now : List Registers) (j 
 -- a run of a slice and those above it
 run_cons : (code : ℕ) (b : Inputs) (s : Registers) (ss : List Registers)
     → run code b (s ∷ ss) ≡ (record {
-      slices = (array_step 1 code (digit_inputs b) s).registers ∷ (run code (rest_inputs b (array_step 1 code (digit_inputs b) s).fi) ss).slices;
-      links = (array_step 1 code (digit_inputs b) s).fi + 2 * (run code (rest_inputs b (array_step 1 code (digit_inputs b) s).fi) ss).links;
+      slices = (array_step 1 code (digit_inputs b) s).registers
+          ∷ (run code (rest_inputs b (array_step 1 code (digit_inputs b) s).fi) ss).slices;
+      links = (array_step 1 code (digit_inputs b) s).fi + 2
+          * (run code (rest_inputs b (array_step 1 code (digit_inputs b) s).fi) ss).links;
       carry = (run code (rest_inputs b (array_step 1 code (digit_inputs b) s).fi) ss).carry;
     })
 unfolding run
@@ -49,12 +51,14 @@ after : (xs ys : List Registers) (j : ℕ) → drop j xs ≡ drop j ys → drop 
 after xs ys j e = sym (drop-drop 1 j xs) ∙ ap (λ (l : List Registers). drop 1 l) e ∙ drop-drop 1 j ys
 
 -- one slice further
-pub ripple_next : (code : ℕ) (b : Inputs) (before now : List Registers) (j links y : ℕ) (carry co : Bool) (d s s' : Registers) (p : Inputs)
+pub ripple_next : (code : ℕ) (b : Inputs) (before now : List Registers) (j links y : ℕ) (carry co : Bool) (d s s' : Registers)
+    (p : Inputs)
     → IsThrough code b before now j links carry → j < length now → j < 16 → s ≡ get_or now j d → AllBelow 4 s' → y ≡ bool_byte co
     → p ≡ digit_inputs (inputs_from j b carry) → s' ≡ (array_step 1 code p s).registers → bit co ≡ (array_step 1 code p s).fi
     → IsThrough code b before (set now j s') (j + 1) (links + y * 2 ^ j % 4294967296) co
 ripple_next code b before now j links y carry co d s s' p t lt small is below ye pe we ce =
-    let cons : drop j before ≡ s ∷ drop (j + 1) before = sym t.rest ∙ drop_at now j d s lt is ∙ ap (λ (l : List Registers). s ∷ l) (after now before j t.rest) in
+    let cons : drop j before ≡ s ∷ drop (j + 1) before = sym t.rest ∙ drop_at now j d s lt is
+    ∙ ap (λ (l : List Registers). s ∷ l) (after now before j t.rest) in
     let cons_run : run code (inputs_from j b carry) (drop j before) ≡ (record {
       slices = s' ∷ (run code (inputs_from (j + 1) b co) (drop (j + 1) before)).slices;
       links = bit co + 2 * (run code (inputs_from (j + 1) b co) (drop (j + 1) before)).links;
@@ -64,7 +68,8 @@ ripple_next code b before now j links y carry co d s s' p t lt small is below ye
       rest = drop-set-lt (j + 1) now j s' (omega arith) ∙ after now before j t.rest;
       digits = all_set now j s' t.digits below;
       slices = t.slices ∙ ap (λ (r : Run). take j now ++ r.slices) cons_run ∙ (rw (take-set_at now j (j + 1) s' refl lt, append_assoc));
-      links_so_far = t.links_so_far ∙ ap (λ (r : Run). links + 2 ^ j * r.links) cons_run ∙ more_links links j y co (run code (inputs_from (j + 1) b co) (drop (j + 1) before)).links ye small;
+      links_so_far = t.links_so_far ∙ ap (λ (r : Run). links + 2 ^ j * r.links) cons_run
+          ∙ more_links links j y co (run code (inputs_from (j + 1) b co) (drop (j + 1) before)).links ye small;
       last = t.last ∙ ap (λ (r : Run). r.carry) cons_run;
       small = more_small links j y co ye small t.small;
     }
@@ -85,7 +90,8 @@ ripple_all code b before now j links carry t h k =
     (t.links_so_far ∙ ap (λ (r : Run). links + 2 ^ j * r.links) none ∙ (let e : links + 2 ^ j * 0 ≡ links = omega arith in e))
     (t.last ∙ ap (λ (r : Run). r.carry) none)
   where
-    same : (r : Run) {ss : List Registers} {l c : ℕ} → r.slices ≡ ss → r.links ≡ l → r.carry ≡ c → r ≡ (record { slices = ss; links = l; carry = c })
+    same : (r : Run) {ss : List Registers} {l c : ℕ} → r.slices ≡ ss → r.links ≡ l → r.carry ≡ c
+        → r ≡ (record { slices = ss; links = l; carry = c })
     same r e f g = λ i. record { slices = e i; links = f i; carry = g i }
 
 -- so what stands is the array step
@@ -94,4 +100,5 @@ pub ripple_done : (code : ℕ) (b : Inputs) (before now : List Registers) (j lin
     → 0 < length before → AllSlices before → BusesFit (length before) b → is_shift code ≡ false
     → RunIs (length before) code b (whole before) (record { slices = now; links = links; carry = bit carry })
 ripple_done code b before now j links carry t h k pos a f e =
-    subst (λ (r : Run). RunIs (length before) code b (whole before) r) (ripple_all code b before now j links carry t h k) (run_is before code b pos a f e)
+    subst (λ (r : Run). RunIs (length before) code b (whole before) r) (ripple_all code b before now j links carry t h k)
+    (run_is before code b pos a f e)

@@ -68,15 +68,21 @@ links_is n code b w = refl
 pub run_step : (code n : ℕ) (p q : Inputs) (s w : Registers) (above : Run) → 0 < n → IsDigits p s → IsWhole n q w → is_shift code ≡ false
     → q.ci ≡ (array_step 1 code p s).fi → RunIs n code q w above
     → RunIs (suc n) code (join_inputs p q) (join s w)
-    (record { slices = (array_step 1 code p s).registers ∷ above.slices; links = (array_step 1 code p s).fi + 2 * above.links; carry = above.carry })
+    (record {
+      slices = (array_step 1 code p s).registers ∷ above.slices;
+      links = (array_step 1 code p s).fi + 2 * above.links;
+      carry = above.carry;
+    })
 run_step code n p q s w above pos d h e c r =
     let first : q.ci ≡ link 1 code p s 0 = c ∙ fi_is 1 code p s e in
     record {
       registers = ap (join (array_step 1 code p s).registers) r.registers ∙ sym (registers_join code n p q s w d h e first);
-      links = ap (λ (x : ℕ). (array_step 1 code p s).fi + 2 * x) (r.links ∙ links_is n code q w) ∙ ap (λ (x : ℕ). x + 2 * bits_below n (link n code q w)) (fi_is 1 code p s e)
+      links = ap (λ (x : ℕ). (array_step 1 code p s).fi + 2 * x) (r.links ∙ links_is n code q w)
+          ∙ ap (λ (x : ℕ). x + 2 * bits_below n (link n code q w)) (fi_is 1 code p s e)
           ∙ sym (links_join code n p q s w d h e first) ∙ sym (links_is (suc n) code (join_inputs p q) (join s w));
       carry = r.carry ∙ fi_is n code q w e ∙ sym (link_join code n (n - 1) p q s w d h e first)
-          ∙ ap (link (suc n) code (join_inputs p q) (join s w)) (let k : suc (n - 1) ≡ suc n - 1 = omega arith in k) ∙ sym (fi_is (suc n) code (join_inputs p q) (join s w) e);
+          ∙ ap (link (suc n) code (join_inputs p q) (join s w)) (let k : suc (n - 1) ≡ suc n - 1 = omega arith in k)
+          ∙ sym (fi_is (suc n) code (join_inputs p q) (join s w) e);
     }
 
 -- a register that is set leaves the number of registers R
@@ -90,16 +96,19 @@ pub array_step_ten : (n code : ℕ) (b : Inputs) (w : Registers) → length (arr
 unfolding array_step registers_after
 array_step_ten n code b w =
     elim (function_of code == 0 && group_of code == 1)
-    as (λ g. length (if g then record (set w (register_of code) (result_word n code b w)) { ac = result_word n code b w } else set w (register_of code) (result_word n code b w)).r ≡ length w.r)
+    as (λ g. length (if g then record (set w (register_of code) (result_word n code b w)) { ac = result_word n code b w } else set w
+    (register_of code) (result_word n code b w)).r ≡ length w.r)
     [ true ↦ set_ten w (register_of code) (result_word n code b w) | false ↦ set_ten w (register_of code) (result_word n code b w) ]
 
 -- buses of one slice are their lowest digits
 pub digits_only : (b : Inputs) → BusesFit 1 b → digit_inputs b ≡ b
 digits_only b h =
-    let k : b.k % 4 ≡ b.k = omega (arith, h.k) in let m : b.m % 4 ≡ b.m = omega (arith, h.m) in let i : b.i % 4 ≡ b.i = omega (arith, h.i) in rw (k, m, i)
+    let k : b.k % 4 ≡ b.k = omega (arith, h.k) in let m : b.m % 4 ≡ b.m = omega (arith, h.m) in
+    let i : b.i % 4 ≡ b.i = omega (arith, h.i) in rw (k, m, i)
 
 -- a run of one slice
-pub run_one : (code : ℕ) (b : Inputs) (s : Registers) → AllBelow 4 s → BusesFit 1 b → is_shift code ≡ false → RunIs 1 code b (whole (s ∷ [])) (run code b (s ∷ []))
+pub run_one : (code : ℕ) (b : Inputs) (s : Registers) → AllBelow 4 s → BusesFit 1 b → is_shift code ≡ false
+    → RunIs 1 code b (whole (s ∷ [])) (run code b (s ∷ []))
 unfolding run
 run_one code b s a h e =
     rw (join_zero s a.ten, digits_only b h) record {
@@ -117,8 +126,12 @@ run_is (s ∷ []) code b pos a h e = run_one code b s a.0 h e
 run_is (s ∷ t ∷ ts) code b pos a h e =
     let p = digit_inputs b in
     let q = rest_inputs b (array_step 1 code (digit_inputs b) s).fi in
-    let fit : BusesFit (length (t ∷ ts)) q = record { k = div4_lt (length (t ∷ ts)) b.k h.k; m = div4_lt (length (t ∷ ts)) b.m h.m; i = div4_lt (length (t ∷ ts)) b.i h.i } in
+    let fit : BusesFit (length (t ∷ ts)) q =
+    record { k = div4_lt (length (t ∷ ts)) b.k h.k; m = div4_lt (length (t ∷ ts)) b.m h.m; i = div4_lt (length (t ∷ ts)) b.i h.i } in
     let digits : IsDigits p s = record { k = omega arith; m = omega arith; i = omega arith; registers = a.0 } in
-    let wholes : IsWhole (length (t ∷ ts)) q (whole (t ∷ ts)) = record { k = fit.k; m = fit.m; i = fit.i; registers = whole_below (t ∷ ts) a.1 } in
-    subst (λ (b' : Inputs). RunIs (length (s ∷ t ∷ ts)) code b' (whole (s ∷ t ∷ ts)) (run code b (s ∷ t ∷ ts))) (join_halves b (array_step 1 code (digit_inputs b) s).fi)
-    (run_step code (length (t ∷ ts)) p q s (whole (t ∷ ts)) (run code q (t ∷ ts)) (omega arith) digits wholes e refl (run_is (t ∷ ts) code q (omega arith) a.1 fit e))
+    let wholes : IsWhole (length (t ∷ ts)) q (whole (t ∷ ts)) =
+    record { k = fit.k; m = fit.m; i = fit.i; registers = whole_below (t ∷ ts) a.1 } in
+    subst (λ (b' : Inputs). RunIs (length (s ∷ t ∷ ts)) code b' (whole (s ∷ t ∷ ts)) (run code b (s ∷ t ∷ ts)))
+    (join_halves b (array_step 1 code (digit_inputs b) s).fi)
+    (run_step code (length (t ∷ ts)) p q s (whole (t ∷ ts)) (run code q (t ∷ ts)) (omega arith) digits wholes e refl
+    (run_is (t ∷ ts) code q (omega arith) a.1 fit e))

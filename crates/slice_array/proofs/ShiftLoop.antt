@@ -36,8 +36,10 @@ shift_nil code b = refl
 -- a run of a slice and those above it
 shift_cons : (code : ℕ) (b : Inputs) (s : Registers) (ss : List Registers)
     → run_shift code b (s ∷ ss) ≡ (record {
-      slices = (array_step 1 code (shift_inputs b (run_shift code (rest_inputs b b.ci) ss).carry) s).registers ∷ (run_shift code (rest_inputs b b.ci) ss).slices;
-      links = (array_step 1 code (shift_inputs b (run_shift code (rest_inputs b b.ci) ss).carry) s).fi + 2 * (run_shift code (rest_inputs b b.ci) ss).links;
+      slices = (array_step 1 code (shift_inputs b (run_shift code (rest_inputs b b.ci) ss).carry) s).registers
+          ∷ (run_shift code (rest_inputs b b.ci) ss).slices;
+      links = (array_step 1 code (shift_inputs b (run_shift code (rest_inputs b b.ci) ss).carry) s).fi + 2
+          * (run_shift code (rest_inputs b b.ci) ss).links;
       carry = (array_step 1 code (shift_inputs b (run_shift code (rest_inputs b b.ci) ss).carry) s).fi;
     })
 unfolding run_shift
@@ -64,20 +66,24 @@ shift_start code b xs carry e h a = record {
 
 -- slice i is as it was while it is left
 read_left : (xs ys : List Registers) (i : ℕ) (d : Registers) → take (i + 1) xs ≡ take (i + 1) ys → get_or xs i d ≡ get_or ys i d
-read_left xs ys i d e = sym (get_or-take (i + 1) xs i d (omega arith)) ∙ ap (λ (l : List Registers). get_or l i d) e ∙ get_or-take (i + 1) ys i d (omega arith)
+read_left xs ys i d e = sym (get_or-take (i + 1) xs i d (omega arith)) ∙ ap (λ (l : List Registers). get_or l i d) e
+    ∙ get_or-take (i + 1) ys i d (omega arith)
 
 -- the slices below i are as they were where those up to i are
 less_left : (xs ys : List Registers) (i : ℕ) → take (i + 1) xs ≡ take (i + 1) ys → take i xs ≡ take i ys
-less_left xs ys i e = sym (take-take i (i + 1) xs (omega arith)) ∙ ap (λ (l : List Registers). take i l) e ∙ take-take i (i + 1) ys (omega arith)
+less_left xs ys i e = sym (take-take i (i + 1) xs (omega arith)) ∙ ap (λ (l : List Registers). take i l) e
+    ∙ take-take i (i + 1) ys (omega arith)
 
 -- one slice further down
 pub shift_next : (code : ℕ) (b : Inputs) (before now : List Registers) (i links y : ℕ) (carry ro : Bool) (d s s' : Registers) (p : Inputs)
-    → IsDownward code b before now (i + 1) links carry → i < length now → i < length before → i < 16 → s ≡ get_or now i d → AllBelow 4 s' → y ≡ bool_byte ro
+    → IsDownward code b before now (i + 1) links carry → i < length now → i < length before → i < 16 → s ≡ get_or now i d → AllBelow 4 s'
+    → y ≡ bool_byte ro
     → p ≡ shift_inputs (inputs_above i b) (bit carry) → s' ≡ (array_step 1 code p s).registers → bit ro ≡ (array_step 1 code p s).fi
     → IsDownward code b before (set now i s') i (links + y * 2 ^ i % 4294967296) ro
 shift_next code b before now i links y carry ro d s s' p t lt lb small is below ye pe we ce =
     let cons : drop i before ≡ s ∷ drop (i + 1) before =
-    rw (add-one) (drop-cons before i d lb) ∙ ap (λ (x : Registers). x ∷ drop (i + 1) before) (sym (read_left now before i d t.left) ∙ sym is) in
+    rw (add-one) (drop-cons before i d lb)
+    ∙ ap (λ (x : Registers). x ∷ drop (i + 1) before) (sym (read_left now before i d t.left) ∙ sym is) in
     let cons_run : run_shift code (inputs_above i b) (drop i before) ≡ (record {
       slices = s' ∷ drop (i + 1) now;
       links = bit ro + 2 * (run_shift code (inputs_above (i + 1) b) (drop (i + 1) before)).links;
@@ -87,7 +93,8 @@ shift_next code b before now i links y carry ro d s s' p t lt lb small is below 
       left = take-set now i s' ∙ less_left now before i t.left;
       digits = all_set now i s' t.digits below;
       slices = ap (λ (r : Run). r.slices) cons_run ∙ sym (drop-set_at now i i s' refl lt);
-      links_so_far = ap (λ (r : Run). 2 ^ i * r.links) cons_run ∙ fewer_links i y ro (run_shift code (inputs_above (i + 1) b) (drop (i + 1) before)).links links ye small t.links_so_far;
+      links_so_far = ap (λ (r : Run). 2 ^ i * r.links) cons_run
+          ∙ fewer_links i y ro (run_shift code (inputs_above (i + 1) b) (drop (i + 1) before)).links links ye small t.links_so_far;
       last = ap (λ (r : Run). r.carry) cons_run;
       small = fewer_small i y ro links ye small t.small;
     }
@@ -102,7 +109,9 @@ shift_done code b before now links carry t pos a f e =
     let r : RunIs (length before) code b (whole before) (run_shift code b before) = shift_is before code b pos a f e in
     record {
       registers = ap whole (sym t.slices ∙ ap (λ (x : Inputs). (run_shift code x before).slices) first) ∙ r.registers;
-      links = sym t.links_so_far ∙ (let o : 1 * (run_shift code (inputs_above 0 b) before).links ≡ (run_shift code (inputs_above 0 b) before).links = omega arith in o)
+      links = sym t.links_so_far
+          ∙ (let o : 1 * (run_shift code (inputs_above 0 b) before).links ≡ (run_shift code (inputs_above 0 b) before).links =
+          omega arith in o)
           ∙ ap (λ (x : Inputs). (run_shift code x before).links) first ∙ r.links;
       carry = sym t.last ∙ ap (λ (x : Inputs). (run_shift code x before).carry) first ∙ r.carry;
     }

@@ -8,13 +8,15 @@ use Rattle.slice_array.proofs.LinkBits.{bits_below_same}
 
 -- outside the shift LI does not matter
 pub array_step_li : (n code k m i ci x y : ℕ) (w : Registers) → is_shift code ≡ false
-    → array_step n code (record { k = k; m = m; i = i; ci = ci; li = x }) w ≡ array_step n code (record { k = k; m = m; i = i; ci = ci; li = y }) w
+    → array_step n code (record { k = k; m = m; i = i; ci = ci; li = x }) w ≡ array_step n code
+    (record { k = k; m = m; i = i; ci = ci; li = y }) w
 unfolding array_step result_word link operand_a operand_b mar_after logic_word test_word
 array_step_li n code k m i ci x y w e = simp e
 
 -- in the shift CI does not matter
 pub array_step_ci : (n code k m i li x y : ℕ) (w : Registers) → is_shift code ≡ true
-    → array_step n code (record { k = k; m = m; i = i; ci = x; li = li }) w ≡ array_step n code (record { k = k; m = m; i = i; ci = y; li = li }) w
+    → array_step n code (record { k = k; m = m; i = i; ci = x; li = li }) w ≡ array_step n code
+    (record { k = k; m = m; i = i; ci = y; li = li }) w
 unfolding array_step mar_after
 array_step_ci n code k m i li x y w e =
     let p : Inputs = record { k = k; m = m; i = i; ci = x; li = li } in

@@ -18,11 +18,13 @@ map_at f (x ∷ xs) (suc n) h = map_at f xs n (omega arith)
 -- registers read digit by digit, by shift and mask, are digit j of the words
 pub digit_is : (j : ℕ) (w : Registers) (r : List ℕ) → length r ≡ 10 → length w.r ≡ 10
     → ((n : ℕ) → n < 10 → get_or r n 0 ≡ bit_and (get_or w.r n 0 / 2 ^ (2 * j)) 3)
-    → (record { r = r; t = bit_and (w.t / 2 ^ (2 * j)) 3; ac = bit_and (w.ac / 2 ^ (2 * j)) 3; mar = bit_and (w.mar / 2 ^ (2 * j)) 3 }) ≡ digit j w
+    → (record { r = r; t = bit_and (w.t / 2 ^ (2 * j)) 3; ac = bit_and (w.ac / 2 ^ (2 * j)) 3; mar = bit_and (w.mar / 2 ^ (2 * j)) 3 })
+    ≡ digit j w
 unfolding digit
 digit_is j w r e h f =
     let same : r ≡ map (digit_of j) w.r = same_number_lists r (map (digit_of j) w.r) (e ∙ sym (length-map w.r (digit_of j) ∙ h))
-    (λ n k. f n (let p : n < 10 = omega arith in p) ∙ two_shift (get_or w.r n 0) j ∙ sym (map_at (digit_of j) w.r n (let p : n < length w.r = omega arith in p))) in
+    (λ n k. f n (let p : n < 10 = omega arith in p) ∙ two_shift (get_or w.r n 0) j
+    ∙ sym (map_at (digit_of j) w.r n (let p : n < length w.r = omega arith in p))) in
     rw (same, two_shift w.t j, two_shift w.ac j, two_shift w.mar j)
 
 -- a digit of the words is a slice
@@ -30,7 +32,8 @@ pub digit_below : (j : ℕ) (w : Registers) → length w.r ≡ 10 → AllBelow 4
 unfolding digit
 digit_below j w h = record {
   ten = length-map w.r (digit_of j) ∙ h;
-  r = All-from_get_or (λ (x : ℕ). x < 4) (map (digit_of j) w.r) 0 (λ n k. rw (map_at (digit_of j) w.r n (let p : n < length w.r = omega (arith, length-map w.r (digit_of j)) in p)) (omega arith));
+  r = All-from_get_or (λ (x : ℕ). x < 4) (map (digit_of j) w.r) 0
+      (λ n k. rw (map_at (digit_of j) w.r n (let p : n < length w.r = omega (arith, length-map w.r (digit_of j)) in p)) (omega arith));
   t = omega arith;
   ac = omega arith;
   mar = omega arith;
@@ -105,17 +108,21 @@ nothing w a =
     sym (λ i. record { r = r i; t = t i; ac = ac i; mar = mar i })
 
 -- slices that hold the digits of words make these words
-pub whole_digits : (ss : List Registers) (w : Registers) → AllBelow (4 ^ length ss) w → ((i : ℕ) (d : Registers) → i < length ss → get_or ss i d ≡ digit i w) → whole ss ≡ w
+pub whole_digits : (ss : List Registers) (w : Registers) → AllBelow (4 ^ length ss) w
+    → ((i : ℕ) (d : Registers) → i < length ss → get_or ss i d ≡ digit i w) → whole ss ≡ w
 whole_digits [] w a h = nothing w a
 whole_digits (s ∷ ss) w a h =
     let first : s ≡ digit 0 w = h 0 s (omega arith) in
-    let rest : whole ss ≡ upper w = whole_digits ss (upper w) (upper_below (length ss) w a) (λ i d k. h (suc i) d (omega arith) ∙ digit_suc i w) in
+    let rest : whole ss ≡ upper w =
+    whole_digits ss (upper w) (upper_below (length ss) w a) (λ i d k. h (suc i) d (omega arith) ∙ digit_suc i w) in
     ap (λ (x : Registers). join x (whole ss)) first ∙ ap (λ (x : Registers). join (digit 0 w) x) rest ∙ join_upper w
 
 -- the digits of words are slices
-pub all_digits : (ss : List Registers) (w : Registers) → length w.r ≡ 10 → (j : ℕ) → ((i : ℕ) (d : Registers) → i < length ss → get_or ss i d ≡ digit (j + i) w) → AllSlices ss
+pub all_digits : (ss : List Registers) (w : Registers) → length w.r ≡ 10 → (j : ℕ)
+    → ((i : ℕ) (d : Registers) → i < length ss → get_or ss i d ≡ digit (j + i) w) → AllSlices ss
 all_digits [] w e j h = tt
 all_digits (s ∷ ss) w e j h = (
   subst (λ (x : Registers). AllBelow 4 x) (sym (h 0 s (omega arith))) (digit_below (j + 0) w e),
-  all_digits ss w e (j + 1) (λ i d k. h (suc i) d (omega arith) ∙ ap (λ (n : ℕ). digit n w) (let q : j + suc i ≡ j + 1 + i = omega arith in q)),
+  all_digits ss w e (j + 1)
+      (λ i d k. h (suc i) d (omega arith) ∙ ap (λ (n : ℕ). digit n w) (let q : j + suc i ≡ j + 1 + i = omega arith in q)),
 )

@@ -25,7 +25,8 @@ join_lt : (n x y : ℕ) → x < 4 ^ n → y < 4 → x * 4 + y < 4 ^ suc n
 join_lt n x y p q = omega (arith, pow-suc 4 n)
 
 -- so do the registers R of a slice
-all_join : (n : ℕ) (ds ws : List ℕ) → length ds ≡ length ws → All (λ x. x < 4) ds → All (λ x. x < 4 ^ n) ws → All (λ x. x < 4 ^ suc n) (join_list ds ws)
+all_join : (n : ℕ) (ds ws : List ℕ) → length ds ≡ length ws → All (λ x. x < 4) ds → All (λ x. x < 4 ^ n) ws
+    → All (λ x. x < 4 ^ suc n) (join_list ds ws)
 all_join n ds ws e d w = All-from_get_or (λ (x : ℕ). x < 4 ^ suc n) (join_list ds ws) 0
     (λ i h. rw (index_join ds ws i e)
     (let p : i < length ds = omega (arith, length_join ds ws e) in let q : i < length ws = omega arith in
@@ -96,7 +97,8 @@ all_at (s ∷ ss) (suc j) d h a = all_at ss j d (omega arith) a.1
 pub below_more_room : (m n : ℕ) (w : Registers) → m ≤ n → AllBelow m w → AllBelow n w
 below_more_room m n w h a = record {
   ten = a.ten;
-  r = All-from_get_or (λ (x : ℕ). x < n) w.r 0 (λ i k. let p : get_or w.r i 0 < m = All-get_or (λ (x : ℕ). x < m) w.r i 0 k a.r in omega arith);
+  r = All-from_get_or (λ (x : ℕ). x < n) w.r 0
+      (λ i k. let p : get_or w.r i 0 < m = All-get_or (λ (x : ℕ). x < m) w.r i 0 k a.r in omega arith);
   t = omega (arith, a.t);
   ac = omega (arith, a.ac);
   mar = omega (arith, a.mar);

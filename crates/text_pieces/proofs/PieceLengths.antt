@@ -15,10 +15,12 @@ pieces_short (Colon ∷ rest) h = let more = pieces_short rest h in omega (arith
 pieces_short (Bar ∷ rest) h = let more = pieces_short rest h in omega (arith, more)
 pieces_short (Equals ∷ rest) h = let more = pieces_short rest h in omega (arith, more)
 pieces_short (Minus ∷ rest) h = let more = pieces_short rest h in omega (arith, more)
-pieces_short (Name text ∷ rest) h = let more = pieces_short rest h.2 in omega (arith, more, h.0.short, length-append text (pieces_text rest))
+pieces_short (Name text ∷ rest) h = let more = pieces_short rest h.2 in
+    omega (arith, more, h.0.short, length-append text (pieces_text rest))
 pieces_short (Number number ∷ rest) h =
     let more = pieces_short rest h.2 in
-    let digits : length (decimal number) ≤ 39 = length-decimal-le_wide 39 number (omega arith) (omega (arith, h.0)) (omega (arith, h.0)) in
+    let digits : length (decimal number) ≤ 39 =
+    length-decimal-le_wide 39 number (omega arith) (omega (arith, h.0)) (omega (arith, h.0)) in
     omega (arith, more, digits, length-append (decimal number) (pieces_text rest))
 
 -- a line of at most so many pieces that can be read
@@ -27,7 +29,8 @@ pub record IsShortLine (most : ℕ) (line : List Piece) : Type 0 where
   pub readable : AreReadable line
 
 -- a text of such lines has at most 39 bytes for each piece, and one for each line
-pub lines_short : (most : ℕ) (all : List (List Piece)) → AllByRecursion (IsShortLine most) all → length (lines_text all) ≤ (39 * most + 1) * length all
+pub lines_short : (most : ℕ) (all : List (List Piece)) → AllByRecursion (IsShortLine most) all
+    → length (lines_text all) ≤ (39 * most + 1) * length all
 lines_short most [] h = omega arith
 lines_short most (line ∷ rest) h =
     let more = lines_short most rest h.1 in
@@ -35,7 +38,9 @@ lines_short most (line ∷ rest) h =
     let few : length line ≤ most = h.0.few in
     let whole : length (lines_text (line ∷ rest)) ≡ length (pieces_text line) + 1 + length (lines_text rest) =
     omega (arith, length-append (pieces_text line ++ 10 ∷ []) (lines_text rest), length-append (pieces_text line) (10 ∷ [])) in
-    grown most (length (pieces_text line)) (length line) (length (lines_text rest)) (length rest) (length (lines_text (line ∷ rest))) here few more whole
+    grown most (length (pieces_text line)) (length line) (length (lines_text rest)) (length rest) (length (lines_text (line ∷ rest)))
+    here few more whole
   where
-    grown : (most bytes pieces text lines all : ℕ) → bytes ≤ 39 * pieces → pieces ≤ most → text ≤ (39 * most + 1) * lines → all ≡ bytes + 1 + text → all ≤ (39 * most + 1) * suc lines
+    grown : (most bytes pieces text lines all : ℕ) → bytes ≤ 39 * pieces → pieces ≤ most → text ≤ (39 * most + 1) * lines
+        → all ≡ bytes + 1 + text → all ≤ (39 * most + 1) * suc lines
     grown most bytes pieces text lines all here few more whole = grind (arith, here, few, more, whole)

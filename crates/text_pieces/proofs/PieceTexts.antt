@@ -22,12 +22,14 @@ ok_words words = Ok words
 -- a source's line of pieces is read as their words
 pub source_words : (all : List Piece) → AreReadable all → sources.words_of (pieces_text all) ≡ Ok (words_in all)
 unfolding sources.words_of
-source_words all h = ap (sources.words_from (pieces_text all)) (gives_tokens all h) ∙ ap (ok_words {E = AsmKind}) (each_read (pieces_text all) [] 0 all refl refl)
+source_words all h = ap (sources.words_from (pieces_text all)) (gives_tokens all h)
+    ∙ ap (ok_words {E = AsmKind}) (each_read (pieces_text all) [] 0 all refl refl)
 
 -- so is a script's
 pub script_words : (all : List Piece) → AreReadable all → scripts.words_of (pieces_text all) ≡ Ok (words_in all)
 unfolding scripts.words_of
-script_words all h = ap (scripts.words_with (pieces_text all)) (gives_tokens all h) ∙ ap (ok_words {E = ScriptKind}) (each_read (pieces_text all) [] 0 all refl refl)
+script_words all h = ap (scripts.words_with (pieces_text all)) (gives_tokens all h)
+    ∙ ap (ok_words {E = ScriptKind}) (each_read (pieces_text all) [] 0 all refl refl)
 
 -- ---- the lines of a text
 
@@ -40,7 +42,9 @@ pieces_unbroken (Bar ∷ rest) h = pieces_unbroken rest h
 pieces_unbroken (Equals ∷ rest) h = pieces_unbroken rest h
 pieces_unbroken (Minus ∷ rest) h = pieces_unbroken rest h
 pieces_unbroken (Name text ∷ rest) h = both_unbroken text (pieces_text rest) (run_unbroken text h.0.plain) (pieces_unbroken rest h.2)
-pieces_unbroken (Number number ∷ rest) h = both_unbroken (decimal number) (pieces_text rest) (run_unbroken (decimal number) (number_is_run number h.0).plain) (pieces_unbroken rest h.2)
+pieces_unbroken (Number number ∷ rest) h =
+    both_unbroken (decimal number) (pieces_text rest) (run_unbroken (decimal number) (number_is_run number h.0).plain)
+    (pieces_unbroken rest h.2)
 
 -- a line of pieces is the first line of the text that it begins
 pub first_line : (all : List Piece) (rest : List ℕ) → AreReadable all → lines (line_text all ++ rest) ≡ pieces_text all ∷ lines rest
@@ -52,4 +56,5 @@ first_line all rest h =
 -- a text of lines of pieces has just those lines
 pub text_lines : (all : List (List Piece)) → AreReadableLines all → lines (lines_text all) ≡ map pieces_text all
 text_lines [] h = refl
-text_lines (line ∷ rest) h = first_line line (lines_text rest) h.0 ∙ ap (λ (ls : List (List ℕ)). pieces_text line ∷ ls) (text_lines rest h.1)
+text_lines (line ∷ rest) h = first_line line (lines_text rest) h.0
+    ∙ ap (λ (ls : List (List ℕ)). pieces_text line ∷ ls) (text_lines rest h.1)

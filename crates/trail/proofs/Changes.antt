@@ -15,16 +15,27 @@ use Rattle.trail.proofs.Signs.{given_by, sign-push, option_or-None, count-le}
 use Rattle.trail.proofs.Order.{IsTrail-push, IsTrail-last, IsTrail-front}
 
 -- where a variable has no sign, there is room for an entry
-pub length-kept : (vars : ℕ) (es : List Entry) (signs : List (Option Bool)) (v : ℕ) → AreKept vars es signs → v ≤ vars → sign_of v es ≡ None → length es < vars + 1
+pub length-kept : (vars : ℕ) (es : List Entry) (signs : List (Option Bool)) (v : ℕ) → AreKept vars es signs → v ≤ vars
+    → sign_of v es ≡ None → length es < vars + 1
 length-kept vars es signs v k le free =
     let none : get_or signs v None ≡ None = k.told v le ∙ free in
     let within : v < length signs = omega (arith, k.sized) in
     let zero_there : count_of (get_or signs v None) ≡ 0 = ap count_of none in
-    omega (arith, sum_by-set count_of signs v (Some true) None within, zero_there, count-le (set signs v (Some true)), length-set signs v (Some true), k.counted, k.sized)
+    omega (
+      arith,
+      sum_by-set count_of signs v (Some true) None within,
+      zero_there,
+      count-le (set signs v (Some true)),
+      length-set signs v (Some true),
+      k.counted,
+      k.sized,
+    )
 
 -- one more entry that may follow
-pub AreKept-push : (vars : ℕ) (es : List Entry) (signs : List (Option Bool)) (e : Entry) → AreKept vars es signs → Follows vars es e → AreKept vars (es ++ e ∷ []) (set signs (var_of e.lit) (Some (is_positive e.lit)))
-AreKept-push vars es signs e k f = record { ordered = IsTrail-push vars es e k.ordered f; sized = length-set signs _ _ ∙ k.sized; told = told; counted = counted }
+pub AreKept-push : (vars : ℕ) (es : List Entry) (signs : List (Option Bool)) (e : Entry) → AreKept vars es signs → Follows vars es e
+    → AreKept vars (es ++ e ∷ []) (set signs (var_of e.lit) (Some (is_positive e.lit)))
+AreKept-push vars es signs e k f =
+    record { ordered = IsTrail-push vars es e k.ordered f; sized = length-set signs _ _ ∙ k.sized; told = told; counted = counted }
   where
     within : var_of e.lit < length signs
     within = let le : var_of e.lit ≤ vars = f.in_range in omega (arith, k.sized, le)
@@ -38,23 +49,34 @@ AreKept-push vars es signs e k f = record { ordered = IsTrail-push vars es e k.o
             let P : ℕ → Type 0 = λ u. get_or (set signs (var_of e.lit) (Some (is_positive e.lit))) u None ≡ Some (is_positive e.lit) in
             let none : sign_of v es ≡ None = ap (λ u. sign_of u es) same ∙ f.fresh in
             subst P (sym same) (get_or-set_same signs (var_of e.lit) _ None within)
-            ∙ sym (sign-push v es e ∙ ap (λ o. option_or o (given_by v e)) none ∙ ap (λ b. if b then Some (is_positive e.lit) else None) yes)
+            ∙ sym (sign-push v es e ∙ ap (λ o. option_or o (given_by v e)) none
+            ∙ ap (λ b. if b then Some (is_positive e.lit) else None) yes)
 
-        others : (v : ℕ) → v ≤ vars → (v ≡ var_of e.lit → ⊥) → get_or (set signs (var_of e.lit) (Some (is_positive e.lit))) v None ≡ sign_of v (es ++ e ∷ [])
+        others : (v : ℕ) → v ≤ vars → (v ≡ var_of e.lit → ⊥)
+            → get_or (set signs (var_of e.lit) (Some (is_positive e.lit))) v None ≡ sign_of v (es ++ e ∷ [])
         others v le other =
             let no : (var_of e.lit == v) ≡ false = grind (arith, nat_tests) in
             get_or-set_other signs (var_of e.lit) v _ None other ∙ k.told v le
-            ∙ sym (sign-push v es e ∙ ap (λ b. option_or (sign_of v es) (if b then Some (is_positive e.lit) else None)) no ∙ option_or-None (sign_of v es))
+            ∙ sym (sign-push v es e ∙ ap (λ b. option_or (sign_of v es) (if b then Some (is_positive e.lit) else None)) no
+            ∙ option_or-None (sign_of v es))
 
     counted : sum_by count_of (set signs (var_of e.lit) (Some (is_positive e.lit))) ≡ length (es ++ e ∷ [])
     counted =
         let none : get_or signs (var_of e.lit) None ≡ None = k.told (var_of e.lit) f.in_range ∙ f.fresh in
         let zero_there : count_of (get_or signs (var_of e.lit) None) ≡ 0 = ap count_of none in
-        omega (arith, sum_by-set count_of signs (var_of e.lit) (Some (is_positive e.lit)) None within, zero_there, length_push es e, k.counted)
+        omega (
+          arith,
+          sum_by-set count_of signs (var_of e.lit) (Some (is_positive e.lit)) None within,
+          zero_there,
+          length_push es e,
+          k.counted,
+        )
 
 -- the last entry is taken back
-pub AreKept-pop : (vars : ℕ) (es : List Entry) (signs : List (Option Bool)) (e : Entry) → AreKept vars (es ++ e ∷ []) signs → AreKept vars es (set signs (var_of e.lit) None)
-AreKept-pop vars es signs e k = record { ordered = IsTrail-front vars es e k.ordered; sized = length-set signs _ _ ∙ k.sized; told = told; counted = counted }
+pub AreKept-pop : (vars : ℕ) (es : List Entry) (signs : List (Option Bool)) (e : Entry) → AreKept vars (es ++ e ∷ []) signs
+    → AreKept vars es (set signs (var_of e.lit) None)
+AreKept-pop vars es signs e k =
+    record { ordered = IsTrail-front vars es e k.ordered; sized = length-set signs _ _ ∙ k.sized; told = told; counted = counted }
   where
     f : Follows vars es e
     f = IsTrail-last vars es e k.ordered
@@ -75,11 +97,14 @@ AreKept-pop vars es signs e k = record { ordered = IsTrail-front vars es e k.ord
         others v le other =
             let no : (var_of e.lit == v) ≡ false = grind (arith, nat_tests) in
             get_or-set_other signs (var_of e.lit) v _ None other ∙ k.told v le
-            ∙ sign-push v es e ∙ ap (λ b. option_or (sign_of v es) (if b then Some (is_positive e.lit) else None)) no ∙ option_or-None (sign_of v es)
+            ∙ sign-push v es e ∙ ap (λ b. option_or (sign_of v es) (if b then Some (is_positive e.lit) else None)) no
+            ∙ option_or-None (sign_of v es)
 
     counted : sum_by count_of (set signs (var_of e.lit) None) ≡ length es
     counted =
         let yes : (var_of e.lit == var_of e.lit) ≡ true = grind (arith, nat_tests) in
-        let some : get_or signs (var_of e.lit) None ≡ Some (is_positive e.lit) = k.told (var_of e.lit) f.in_range ∙ sign-push (var_of e.lit) es e ∙ ap (λ o. option_or o (given_by (var_of e.lit) e)) f.fresh ∙ ap (λ b. if b then Some (is_positive e.lit) else None) yes in
+        let some : get_or signs (var_of e.lit) None ≡ Some (is_positive e.lit) = k.told (var_of e.lit) f.in_range
+        ∙ sign-push (var_of e.lit) es e ∙ ap (λ o. option_or o (given_by (var_of e.lit) e)) f.fresh
+        ∙ ap (λ b. if b then Some (is_positive e.lit) else None) yes in
         let one_there : count_of (get_or signs (var_of e.lit) None) ≡ 1 = ap count_of some in
         omega (arith, sum_by-set count_of signs (var_of e.lit) None None within, one_there, length_push es e, k.counted)

@@ -30,7 +30,8 @@ pub ends-push : (level : ℕ) (es : List Entry) (e : Entry) → ends_above_test 
 ends-push level es e =
     let n : length (es ++ e ∷ []) - 1 ≡ length es = omega (arith, length_push es e) in
     let lt : length es < length (es ++ e ∷ []) = omega (arith, length_push es e) in
-    let there : slice_get (es ++ e ∷ []) (length es) ≡ Some e = slice_get-get_or (es ++ e ∷ []) (length es) e lt ∙ ap Some (get_or_push es e e (length es) refl) in
+    let there : slice_get (es ++ e ∷ []) (length es) ≡ Some e = slice_get-get_or (es ++ e ∷ []) (length es) e lt
+    ∙ ap Some (get_or_push es e e (length es) refl) in
     ap (λ o. option_map_or (λ x. nat_lt level x.level) o false) (ap (slice_get (es ++ e ∷ [])) n ∙ there)
 
 -- where the last entry is not above a level, the whole is not
@@ -43,7 +44,8 @@ level-last vars (x ∷ xs) level t ends = by (x ∷ xs) x t ends (omega arith)
         let n = length es - 1 in
         let lt : n < length es = omega arith in
         let there : slice_get es n ≡ Some (get_or es n d) = slice_get-get_or es n d lt in
-        let test : nat_lt level (get_or es n d).level ≡ false = ap (λ o. option_map_or (λ e. nat_lt level e.level) o false) (sym there) ∙ ends in
+        let test : nat_lt level (get_or es n d).level ≡ false = ap (λ o. option_map_or (λ e. nat_lt level e.level) o false) (sym there)
+        ∙ ends in
         let low : (get_or es n d).level ≤ level = grind (arith, nat_tests) in
         let whole : level_of (take (n + 1) es) ≡ level_of es = ap level_of (take_all (n + 1) es (omega arith)) in
         omega (arith, level-up_to vars es t n d lt, low, whole)
@@ -51,11 +53,14 @@ level-last vars (x ∷ xs) level t ends = by (x ∷ xs) x t ends (omega arith)
 -- a list whose elements all pass is filtered whole
 filter-whole : (p : Entry → Bool) (es : List Entry) → ((i : ℕ) (d : Entry) → i < length es → p (get_or es i d) ≡ true) → filter p es ≡ es
 filter-whole p [] h = refl
-filter-whole p (e ∷ es) h = ap (λ b. cond b (e ∷ filter p es) (filter p es)) (h 0 e (omega arith)) ∙ ap (λ l. e ∷ l) (filter-whole p es (λ i d lt. h (suc i) d (omega arith)))
+filter-whole p (e ∷ es) h = ap (λ b. cond b (e ∷ filter p es) (filter p es)) (h 0 e (omega arith))
+    ∙ ap (λ l. e ∷ l) (filter-whole p es (λ i d lt. h (suc i) d (omega arith)))
 
 -- a trail of at most a level keeps all its entries of levels up to that one
-pub filter-low : (vars : ℕ) (es : List Entry) (level : ℕ) → IsTrail vars es → level_of es ≤ level → filter (λ e. nat_le e.level level) es ≡ es
-filter-low vars es level t low = filter-whole (λ e. nat_le e.level level) es (λ i d lt. passes (get_or es i d).level (level-below vars es t i d lt))
+pub filter-low : (vars : ℕ) (es : List Entry) (level : ℕ) → IsTrail vars es → level_of es ≤ level
+    → filter (λ e. nat_le e.level level) es ≡ es
+filter-low vars es level t low =
+    filter-whole (λ e. nat_le e.level level) es (λ i d lt. passes (get_or es i d).level (level-below vars es t i d lt))
   where
     passes : (n : ℕ) → n ≤ level_of es → nat_le n level ≡ true
     passes n below = grind (arith, nat_tests)

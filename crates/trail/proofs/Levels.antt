@@ -36,7 +36,8 @@ level-le [] = omega arith
 level-le (e ∷ es) = rw (sum_by-cons step_of e es) (omega (arith, step-le e, level-le es))
 
 -- the level of the entry at a place is that of the entries up to it
-pub level-up_to : (vars : ℕ) (es : List Entry) → IsTrail vars es → (i : ℕ) (d : Entry) → i < length es → (get_or es i d).level ≡ level_of (take (i + 1) es)
+pub level-up_to : (vars : ℕ) (es : List Entry) → IsTrail vars es → (i : ℕ) (d : Entry) → i < length es
+    → (get_or es i d).level ≡ level_of (take (i + 1) es)
 level-up_to vars es t i d lt =
     let f : Follows vars (take i es) (get_or es i d) = IsTrail-at vars es t i d lt in
     f.level ∙ sym (sum_by_more step_of es i d lt)
@@ -46,11 +47,13 @@ level-take-le : (es : List Entry) (i j : ℕ) → i ≤ j → level_of (take i e
 level-take-le es i j le = omega (arith, sum_by-take-le step_of (take j es) i, ap level_of (take-take i j es le))
 
 -- an entry's level is at most that of the entries before a later one
-level-before : (vars : ℕ) (es : List Entry) → IsTrail vars es → (i j : ℕ) (d : Entry) → i < j → j ≤ length es → (get_or es i d).level ≤ level_of (take j es)
+level-before : (vars : ℕ) (es : List Entry) → IsTrail vars es → (i j : ℕ) (d : Entry) → i < j → j ≤ length es
+    → (get_or es i d).level ≤ level_of (take j es)
 level-before vars es t i j d lt within = omega (arith, level-up_to vars es t i d (omega arith), level-take-le es (i + 1) j (omega arith))
 
 -- no entry's level is above that of the whole
-pub level-below : (vars : ℕ) (es : List Entry) → IsTrail vars es → (i : ℕ) (d : Entry) → i < length es → (get_or es i d).level ≤ level_of es
+pub level-below : (vars : ℕ) (es : List Entry) → IsTrail vars es → (i : ℕ) (d : Entry) → i < length es
+    → (get_or es i d).level ≤ level_of es
 level-below vars es t i d lt = omega (arith, level-up_to vars es t i d lt, sum_by-take-le step_of es (i + 1))
 
 -- what a trail is, said of the whole list
@@ -63,7 +66,8 @@ IsTrail-levelled vars es t = record { apart = apart; rising = rising; from_one =
     apart : AllPairs (λ a b. var_of a.lit ≢ var_of b.lit) es
     apart i j d lt within =
         let sized : length (take j es) ≡ j = length-take-le j es (omega arith) in
-        let absent : var_of (get_or (take j es) i d).lit ≢ var_of (get_or es j d).lit = sign-absent (var_of (get_or es j d).lit) (take j es) i d (omega arith) (follows j d within).fresh in
+        let absent : var_of (get_or (take j es) i d).lit ≢ var_of (get_or es j d).lit =
+        sign-absent (var_of (get_or es j d).lit) (take j es) i d (omega arith) (follows j d within).fresh in
         subst (λ (a : Entry). var_of a.lit ≢ var_of (get_or es j d).lit) (get_or-take j es i d lt) absent
 
     rising : AllPairs (λ a b. a.level ≤ b.level) es
@@ -106,5 +110,6 @@ IsTrail-levelled vars es t = record { apart = apart; rising = rising; from_one =
                 let next : k + 1 ≡ i = omega arith in
                 let k_lt : k < i = omega arith in
                 let k_within : k < length es = omega (arith, lt) in
-                let last : (get_or es k e).level ≡ level_of (take i es) = level-up_to vars es t k e k_within ∙ ap (λ n. level_of (take n es)) next in
+                let last : (get_or es k e).level ≡ level_of (take i es) = level-up_to vars es t k e k_within
+                ∙ ap (λ n. level_of (take n es)) next in
                 none k e (omega (arith, sized)) (ap (λ (a : Entry). a.level) (get_or-take i es k e k_lt) ∙ last ∙ sym level_is)

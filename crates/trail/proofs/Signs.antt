@@ -27,7 +27,9 @@ pub sign-push : (v : ℕ) (es : List Entry) (e : Entry) → sign_of v (es ++ e �
 sign-push v [] e = refl
 sign-push v (x ∷ es) e = by (var_of x.lit == v) (sign-push v es e)
   where
-    by : (b : Bool) → sign_of v (es ++ e ∷ []) ≡ option_or (sign_of v es) (given_by v e) → (if b then Some (is_positive x.lit) else sign_of v (es ++ e ∷ [])) ≡ option_or (if b then Some (is_positive x.lit) else sign_of v es) (given_by v e)
+    by : (b : Bool) → sign_of v (es ++ e ∷ []) ≡ option_or (sign_of v es) (given_by v e)
+        → (if b then Some (is_positive x.lit) else sign_of v (es ++ e ∷ [])) ≡ option_or
+        (if b then Some (is_positive x.lit) else sign_of v es) (given_by v e)
     by true h = refl
     by false h = h
 
@@ -40,7 +42,8 @@ option_or-None (Some s) = refl
 sign-cons : (v : ℕ) (x : Entry) (xs : List Entry) → sign_of v (x ∷ xs) ≡ None → (var_of x.lit ≢ v) × (sign_of v xs ≡ None)
 sign-cons v x xs h = by (var_of x.lit == v) refl h
   where
-    by : (b : Bool) → (var_of x.lit == v) ≡ b → (if b then Some (is_positive x.lit) else sign_of v xs) ≡ None → (var_of x.lit ≢ v) × (sign_of v xs ≡ None)
+    by : (b : Bool) → (var_of x.lit == v) ≡ b → (if b then Some (is_positive x.lit) else sign_of v xs) ≡ None
+        → (var_of x.lit ≢ v) × (sign_of v xs ≡ None)
     by true test h = cc
     by false test h = (λ same. grind (arith, nat_tests), h)
 

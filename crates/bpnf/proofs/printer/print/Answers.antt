@@ -8,4 +8,5 @@ use Rattle.bpnf.proofs.printer.print.Goals as goal
 pub returns-clause-read_again : goal.returns-clause-read_again
 returns-clause-read_again c =
     let text : c.print_frames.new.text.items ≡ image_text c.args.prom.now = grind (arith, common_steps) in
-    subst (λ (t : List ℕ). Reads c.args.prom.now.bits 512 t (Ok c.args.prom.now.words)) (sym text) (printed_is_read c.args.prom.now c.bits.ensures.image)
+    subst (λ (t : List ℕ). Reads c.args.prom.now.bits 512 t (Ok c.args.prom.now.words)) (sym text)
+    (printed_is_read c.args.prom.now c.bits.ensures.image)

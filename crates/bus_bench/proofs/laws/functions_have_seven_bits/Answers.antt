@@ -9,7 +9,8 @@ loop-label-preserved c =
     let instrs = c.args.instrs.now in
     let P : ℕ → Type 0 = λ k. (instr : Instr) → slice_get instrs k ≡ Some instr → instr.func < 128 in
     let here : P c.loop-label.label = λ instr at.
-    (let same : c.index-instrs-label.result ≡ instr = c.index-instrs-label.is ∙ get_or_from_slice_get instrs c.loop-label.label instr c.index-instrs-label.result at in
+    (let same : c.index-instrs-label.result ≡ instr = c.index-instrs-label.is
+    ∙ get_or_from_slice_get instrs c.loop-label.label instr c.index-instrs-label.result at in
     subst (λ (x : Instr). x.func < 128) same c.function_has_seven_bits.ensures) in
     below_more P c.loop-label.label c.loop-label.invariant here
 

@@ -6,4 +6,6 @@ use Rattle.bus_bench.proofs.running.next_trace_line.Goals as goal
 
 pub view_line-requires-clause-latch : goal.view_line-requires-clause-latch
 view_line-requires-clause-latch c =
-    subst (λ (pr : ℕ). pr < 16) (sym (ap (λ (view : ClockView). view.pr) c.step-view.ensures.view ∙ view_pr c.args.words.now (declaration_of c.args.decl.now) c.args.bench.now c.at-buses.result)) c.requires.machine.pr
+    subst (λ (pr : ℕ). pr < 16)
+    (sym (ap (λ (view : ClockView). view.pr) c.step-view.ensures.view
+    ∙ view_pr c.args.words.now (declaration_of c.args.decl.now) c.args.bench.now c.at-buses.result)) c.requires.machine.pr

@@ -6,6 +6,7 @@ use Rattle.bus_script.proofs.trace_line.add_more_words.Given as goal
 
 abbrev pub invariant-loop-word : goal.invariant-loop-word
 invariant-loop-word l = record {
-  so_far : l.line.items ++ flat_map (λ word. codes "," ++ word_text l.slices word) (drop l.word-index l.words) ≡ l.initial.line.items ++ flat_map (λ word. codes "," ++ word_text l.slices word) l.words;
+  so_far : l.line.items ++ flat_map (λ word. codes "," ++ word_text l.slices word)
+      (drop l.word-index l.words) ≡ l.initial.line.items ++ flat_map (λ word. codes "," ++ word_text l.slices word) l.words;
   len : length l.line.items ≤ length l.initial.line.items + 9 * l.word-index;
 }

@@ -8,15 +8,18 @@ use Rattle.flow_sim.proofs.machine.start_memory.Goals as goal
 pub loop-address-init : goal.loop-address-init
 loop-address-init c = record {
   words = c.in_ok-memory.ensures.items ∙ first_words_none c.args.script.now;
-  fits = λ slices _. subst (All (λ (word : ℕ). word < 4 ^ slices)) (sym {A = List ℕ} c.in_ok-memory.ensures.items) (λ k d below. absurd (omega (arith, below)));
+  fits = λ slices _. subst (All (λ (word : ℕ). word < 4 ^ slices)) (sym {A = List ℕ} c.in_ok-memory.ensures.items)
+      (λ k d below. absurd (omega (arith, below)));
 }
 
 pub loop-address-preserved : goal.loop-address-preserved
 loop-address-preserved c = record {
-  words = rw (c.in_ok-push.ensures.items, c.loop-address.invariant.words, c.initial.ensures.exact) (first_words_more c.args.script.now c.loop-address.address);
+  words = rw (c.in_ok-push.ensures.items, c.loop-address.invariant.words, c.initial.ensures.exact)
+      (first_words_more c.args.script.now c.loop-address.address);
   fits = λ slices h.
       subst (All (λ (word : ℕ). word < 4 ^ slices)) (sym {A = List ℕ} c.in_ok-push.ensures.items)
-      (All-push (λ word. word < 4 ^ slices) c.loop-address.memory.items c.initial.result (c.loop-address.invariant.fits slices h) (c.initial.ensures.fits slices h));
+      (All-push (λ word. word < 4 ^ slices) c.loop-address.memory.items c.initial.result (c.loop-address.invariant.fits slices h)
+      (c.initial.ensures.fits slices h));
 }
 
 pub returns-clause-words : goal.returns-clause-words

@@ -8,7 +8,8 @@ use Rattle.flow_sim.proofs.running.write_clocks.Given as goal
 
 abbrev pub invariant-loop-clock : goal.invariant-loop-clock
 invariant-loop-clock g l = record {
-  written : Written (g.K.Sink.state l.initial.sink) (g.K.Sink.state l.sink) (flow_text (graph_of l.program) l.script l.clocks) (text_from (graph_of l.program) l.script (l.clocks - l._clock) l.state);
+  written : Written (g.K.Sink.state l.initial.sink) (g.K.Sink.state l.sink) (flow_text (graph_of l.program) l.script l.clocks)
+      (text_from (graph_of l.program) l.script (l.clocks - l._clock) l.state);
   goes_on : SinkGoesOn (g.K.Sink.state l.initial.sink) (g.K.Sink.state l.sink);
   state : IsStateOf (graph_of l.program) l.state;
   clock : l.state.machine.clock ≡ l._clock;

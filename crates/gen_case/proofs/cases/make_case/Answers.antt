@@ -15,14 +15,17 @@ returns-clause-accepted c = ap source_of c.in_ok-source.ensures.text ∙ source_
 
 pub returns-clause-script_accepted : goal.returns-clause-script_accepted
 returns-clause-script_accepted c =
-    ap (script_of 8) (c.in_ok-script.ensures ∙ ap script_from c.in_ok-source.ensures.state) ∙ script_accepted (state_after c.args.number 640)
+    ap (script_of 8) (c.in_ok-script.ensures ∙ ap script_from c.in_ok-source.ensures.state)
+    ∙ script_accepted (state_after c.args.number 640)
 
 pub returns-clause-source_short : goal.returns-clause-source_short
-returns-clause-source_short c = subst (λ (text : List ℕ). length text ≤ 1048576) (sym c.in_ok-source.ensures.text) (source_short c.args.number)
+returns-clause-source_short c =
+    subst (λ (text : List ℕ). length text ≤ 1048576) (sym c.in_ok-source.ensures.text) (source_short c.args.number)
 
 pub returns-clause-script_short : goal.returns-clause-script_short
 returns-clause-script_short c =
-    subst (λ (text : List ℕ). length text ≤ 4194304) (sym (c.in_ok-script.ensures ∙ ap script_from c.in_ok-source.ensures.state)) (script_short (state_after c.args.number 640))
+    subst (λ (text : List ℕ). length text ≤ 4194304) (sym (c.in_ok-script.ensures ∙ ap script_from c.in_ok-source.ensures.state))
+    (script_short (state_after c.args.number 640))
 
 -- the placement is legal whether memory was wanting or not
 pub returns-clause-legal : goal.returns-clause-legal

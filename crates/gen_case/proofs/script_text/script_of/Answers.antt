@@ -16,7 +16,8 @@ loop-clock-preserved c =
     let s : ℕ = c.args.draws.now.state in
     let clock : ℕ = c.loop-clock._clock in
     let next : suc clock ≡ clock + 1 = omega arith in
-    let after : c.draw.new.self.state ≡ state_after s (suc clock) = c.draw.ensures.state ∙ ap next_state c.loop-clock.invariant.state ∙ sym (one_draw s clock) in
+    let after : c.draw.new.self.state ≡ state_after s (suc clock) = c.draw.ensures.state ∙ ap next_state c.loop-clock.invariant.state
+    ∙ sym (one_draw s clock) in
     let word : c.draw.result ≡ word_at s clock = c.draw.ensures.drawn ∙ ap (λ (state : ℕ). drawn state 65536) after in
     record {
       text = c.in_ok-write_clock.ensures ∙ ap (λ (w : ℕ). c.loop-clock.text.items ++ line_text (clock_line w)) word
@@ -27,4 +28,6 @@ loop-clock-preserved c =
 pub returns : goal.returns
 returns c =
     let s : ℕ = c.args.draws.now.state in
-    c.loop-clock.invariant.text ∙ ap (λ (ks : List ℕ). lines_text (map (λ (k : ℕ). clock_line (word_at s k)) ks)) (clocks_are c.loop-clock._clock (omega arith)) ∙ sym (script_is s)
+    c.loop-clock.invariant.text
+    ∙ ap (λ (ks : List ℕ). lines_text (map (λ (k : ℕ). clock_line (word_at s k)) ks)) (clocks_are c.loop-clock._clock (omega arith))
+    ∙ sym (script_is s)

@@ -12,7 +12,8 @@ loop-clock-init c =
     let g = graph_of c.args.program.now in
     let script = c.args.script.now in
     let all : c.args.clocks - 0 ≡ c.args.clocks = omega arith in
-    let begun = ap (λ (s : FlowState). sum_from g script c.args.clocks s) c.in_ok-state.ensures.start ∙ sym (sum_is g script c.args.clocks) in
+    let begun = ap (λ (s : FlowState). sum_from g script c.args.clocks s) c.in_ok-state.ensures.start
+    ∙ sym (sum_is g script c.args.clocks) in
     record {
       counted = omega (arith, ap (λ (n : ℕ). sum_from g script n c.in_ok-state.state) all, begun);
       state = c.in_ok-state.ensures.fits;
@@ -26,14 +27,23 @@ loop-clock-preserved c =
     let script = c.args.script.now in
     let step = c.flow_step-view in
     let counted =
-    one_counted g script c.args.clocks c.loop-clock.clock c.loop-clock.sum (flow_sum g script c.args.clocks) c.loop-clock.state c.at.result c.loop-clock-test.true c.loop-clock.invariant.clock c.at.ensures.exact c.loop-clock.invariant.counted in
+    one_counted g script c.args.clocks c.loop-clock.clock c.loop-clock.sum (flow_sum g script c.args.clocks)
+    c.loop-clock.state c.at.result c.loop-clock-test.true c.loop-clock.invariant.clock c.at.ensures.exact
+    c.loop-clock.invariant.counted in
     record {
       counted =
-          ap (λ (n : ℕ). c.loop-clock.sum + n + sum_from g script (c.args.clocks - (c.loop-clock.clock + 1)) step.new.state) (ap (λ v. v.regs.ac) step.ensures.view)
-          ∙ ap (λ (s : FlowState). c.loop-clock.sum + (flow_view g c.loop-clock.state c.at.result).regs.ac + sum_from g script (c.args.clocks - (c.loop-clock.clock + 1)) s) step.ensures.state
+          ap (λ (n : ℕ). c.loop-clock.sum + n + sum_from g script (c.args.clocks - (c.loop-clock.clock + 1)) step.new.state)
+          (ap (λ v. v.regs.ac) step.ensures.view)
+          ∙ ap (λ (s : FlowState). c.loop-clock.sum + (flow_view g c.loop-clock.state c.at.result).regs.ac + sum_from g script
+          (c.args.clocks - (c.loop-clock.clock + 1)) s) step.ensures.state
           ∙ counted;
       state = step.ensures.fits;
-      clock = omega (arith, ap (λ (s : FlowState). s.machine.clock) step.ensures.state, step_clock g c.loop-clock.state c.at.result, c.loop-clock.invariant.clock);
+      clock = omega (
+        arith,
+        ap (λ (s : FlowState). s.machine.clock) step.ensures.state,
+        step_clock g c.loop-clock.state c.at.result,
+        c.loop-clock.invariant.clock,
+      );
       small = omega arith;
     }
 

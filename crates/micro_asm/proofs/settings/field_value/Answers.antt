@@ -13,19 +13,29 @@ pub overflow_cast-result : goal.overflow_cast-result
 overflow_cast-result c =
     let fields = c.args.fields.now in
     let field : Field = c.index-fields-place.result in
-    let at : slice_get fields c.args.place ≡ Some field = slice_get_read fields (length fields) c.args.place field refl c.requires.place c.index-fields-place.is in
-    omega (arith, held_below c.in-Some.value field.width (narrow_at fields c.args.place field c.requires.sized at) (value_held fields c.args.settings.now c.args.place field c.in-Some.value c.requires.distinct c.requires.accepted at (sym c.in-Some.ensures)))
+    let at : slice_get fields c.args.place ≡ Some field =
+    slice_get_read fields (length fields) c.args.place field refl c.requires.place c.index-fields-place.is in
+    omega (
+      arith,
+      held_below c.in-Some.value field.width (narrow_at fields c.args.place field c.requires.sized at)
+          (value_held fields c.args.settings.now c.args.place field c.in-Some.value c.requires.distinct c.requires.accepted at
+          (sym c.in-Some.ensures)),
+    )
 
 pub returns-in-Some : goal.returns-in-Some
 returns-in-Some c =
     let fields = c.args.fields.now in
     let field : Field = c.index-fields-place.result in
-    let at : slice_get fields c.args.place ≡ Some field = slice_get_read fields (length fields) c.args.place field refl c.requires.place c.index-fields-place.is in
-    sym (ap (option_map (field_value c.args.settings.now)) at ∙ ap (λ (given : Option ℕ). some_number (unwrap_or given field.default)) (sym c.in-Some.ensures))
+    let at : slice_get fields c.args.place ≡ Some field =
+    slice_get_read fields (length fields) c.args.place field refl c.requires.place c.index-fields-place.is in
+    sym (ap (option_map (field_value c.args.settings.now)) at
+    ∙ ap (λ (given : Option ℕ). some_number (unwrap_or given field.default)) (sym c.in-Some.ensures))
 
 pub returns-in-None : goal.returns-in-None
 returns-in-None c =
     let fields = c.args.fields.now in
     let field : Field = c.index-fields-place.result in
-    let at : slice_get fields c.args.place ≡ Some field = slice_get_read fields (length fields) c.args.place field refl c.requires.place c.index-fields-place.is in
-    sym (ap (option_map (field_value c.args.settings.now)) at ∙ ap (λ (given : Option ℕ). some_number (unwrap_or given field.default)) (sym c.in-None.ensures))
+    let at : slice_get fields c.args.place ≡ Some field =
+    slice_get_read fields (length fields) c.args.place field refl c.requires.place c.index-fields-place.is in
+    sym (ap (option_map (field_value c.args.settings.now)) at
+    ∙ ap (λ (given : Option ℕ). some_number (unwrap_or given field.default)) (sym c.in-None.ensures))

@@ -10,4 +10,5 @@ returns-in-Err c = refused_in c.in-Err.fault c.args.bytes.now c.in-Err.ensures
 
 pub returns-in-Ok : goal.returns-in-Ok
 returns-in-Ok c =
-    subst (λ (meant : Result Graph (ℕ × AsmKind)). GivesText graph_of c.finish.result meant) (sym (finished_in c.in-Ok.state c.args.bytes.now c.in-Ok.ensures)) c.finish.ensures
+    subst (λ (meant : Result Graph (ℕ × AsmKind)). GivesText graph_of c.finish.result meant)
+    (sym (finished_in c.in-Ok.state c.args.bytes.now c.in-Ok.ensures)) c.finish.ensures

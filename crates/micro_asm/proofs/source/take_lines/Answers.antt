@@ -17,7 +17,9 @@ returns-in-Err c =
     let line : List ℕ = slice_range bytes c.in-Some.span.start c.in-Some.span.end in
     let rest : List (List ℕ) = lines (drop c.in-Some.span.after bytes) in
     let cut : lines (drop c.loop-span.at bytes) ≡ line ∷ rest = c.in-Some.ensures.some.cut in
-    let meant : after_lines c.loop-span.state number (line ∷ rest) ≡ after_lines (facts_of []) 1 (lines bytes) = ap (after_lines c.loop-span.state number) (sym cut) ∙ c.loop-span.invariant.so_far in
-    let refused : RefusesAt (fault_at number c.in-Err.fault) (after_lines c.loop-span.state number (line ∷ rest)) = refused_line c.in-Err.fault c.loop-span.state number line rest c.in-Err.ensures in
+    let meant : after_lines c.loop-span.state number (line ∷ rest) ≡ after_lines (facts_of []) 1 (lines bytes) =
+    ap (after_lines c.loop-span.state number) (sym cut) ∙ c.loop-span.invariant.so_far in
+    let refused : RefusesAt (fault_at number c.in-Err.fault) (after_lines c.loop-span.state number (line ∷ rest)) =
+    refused_line c.in-Err.fault c.loop-span.state number line rest c.in-Err.ensures in
     subst (λ (fault : Refusal AsmKind). RefusesAt fault (after_lines (facts_of []) 1 (lines bytes))) (sym c.fault_at.ensures)
     (subst (λ (said : Result Facts (ℕ × AsmKind)). RefusesAt (fault_at number c.in-Err.fault) said) meant refused)

@@ -9,6 +9,8 @@ returns-clause-some c = record {
   within = omega arith;
   goes_on = omega arith;
   after = omega arith;
-  ended = line_ended c.args.bytes.now c.args.at c.piece_end-stop.result c.min-after.result (omega arith) c.piece_end-stop.ensures.end c.piece_end-stop.ensures.within c.min-after.ensures;
-  cut = line_cut c.args.bytes.now c.args.at c.piece_end-stop.result c.kept_end-end.result c.min-after.result (omega arith) c.piece_end-stop.ensures.end c.piece_end-stop.ensures.within c.kept_end-end.ensures.kept c.min-after.ensures;
+  ended = line_ended c.args.bytes.now c.args.at c.piece_end-stop.result c.min-after.result (omega arith)
+      c.piece_end-stop.ensures.end c.piece_end-stop.ensures.within c.min-after.ensures;
+  cut = line_cut c.args.bytes.now c.args.at c.piece_end-stop.result c.kept_end-end.result c.min-after.result (omega arith)
+      c.piece_end-stop.ensures.end c.piece_end-stop.ensures.within c.kept_end-end.ensures.kept c.min-after.ensures;
 }

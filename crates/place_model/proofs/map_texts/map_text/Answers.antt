@@ -16,11 +16,13 @@ loop-label-preserved c = λ tail more.
     subst P (sym (ap (λ (text : List ℕ). text ++ tail) grown ∙ append_assoc c.loop-label.text.items line tail))
     (c.loop-label.invariant (line ++ tail)
     (AreLines-step place instrs place c.loop-label.label c.instr.result.now c.cell-cell.result c.jump_of-jump.result tail
-    c.instr.ensures c.cell-cell.ensures (c.jump_of-jump.ensures c.instr.result.now c.cell-cell.result c.instr.ensures c.cell-cell.ensures) more))
+    c.instr.ensures c.cell-cell.ensures (c.jump_of-jump.ensures c.instr.result.now c.cell-cell.result c.instr.ensures c.cell-cell.ensures)
+    more))
 
 pub returns : goal.returns
 returns c =
     let place = c.args.placement.now in
     let instrs = c.args.program.now.instrs in
     let P : List ℕ → Type 0 = λ text. AreLines place instrs place text in
-    subst P (append-nil c.loop-label.text.items) (c.loop-label.invariant [] (AreLines-end place instrs place c.loop-label.label (omega arith) (omega arith)))
+    subst P (append-nil c.loop-label.text.items)
+    (c.loop-label.invariant [] (AreLines-end place instrs place c.loop-label.label (omega arith) (omega arith)))

@@ -10,4 +10,5 @@ returns-in-None-clause-legal c =
     let valid = c.args.program.now.valid in
     let place = c.in_ok-placement.placement in
     let pinned = c.in_ok-placement.ensures.ok in
-    IsLegal-from_faultless g place pinned.cell_for_each_label valid.start_in_range (KeepsPins-from_pinned g place valid pinned) c.in-None.ensures.none
+    IsLegal-from_faultless g place pinned.cell_for_each_label valid.start_in_range (KeepsPins-from_pinned g place valid pinned)
+    c.in-None.ensures.none

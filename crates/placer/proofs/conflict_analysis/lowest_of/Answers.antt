@@ -16,8 +16,11 @@ loop-lit-preserved c =
     let at : _ ≡ w.place = read_place places (length es) z c.var.result w c.var.ensures.value in
     let e = c.lower_of-least.ensures in
     let there : slice_get es w.place ≡ Some c.entry.result = ap (slice_get es) (sym at) ∙ c.entry.ensures in
-    subst (λ (cl : List ℤ). Lowers es places c.args.level cl c.args.lowest c.lower_of-least.result) (sym (next_lit clause i z lt c.lit-item.is))
-    (Lowers_push es places c.args.level (take i clause) z w.place c.entry.result c.args.lowest c.loop-lit.least c.lower_of-least.result w.there there e.lower
+    subst (λ (cl : List ℤ). Lowers es places c.args.level cl c.args.lowest c.lower_of-least.result)
+    (sym (next_lit clause i z lt c.lit-item.is))
+    (Lowers_push es places c.args.level (take i clause)
+    z w.place c.entry.result c.args.lowest c.loop-lit.least c.lower_of-least.result w.there there e.lower
     (λ s. subst (λ (p : ℕ). c.lower_of-least.result ≤ p) at (e.least s))
-    (subst (λ (p : ℕ). (c.lower_of-least.result ≡ c.loop-lit.least) ⊎ ((c.lower_of-least.result ≡ p) × (c.entry.result.level ≡ c.args.level))) at e.own)
+    (subst (λ (p : ℕ). (c.lower_of-least.result ≡ c.loop-lit.least)
+    ⊎ ((c.lower_of-least.result ≡ p) × (c.entry.result.level ≡ c.args.level))) at e.own)
     c.loop-lit.invariant)

@@ -11,9 +11,12 @@ loop-lit-preserved c =
     let z = c.lit-item.result in
     let mid = c.loop-lit.marks in
     let lt : c.loop-lit.lit-index < length c.args.clause.now = omega arith in
-    let w : IsWithin places (length c.args.marks.now) z = subst (λ (y : ℤ). IsWithin places (length c.args.marks.now) y) (sym c.lit-item.is) (c.requires i z lt) in
+    let w : IsWithin places (length c.args.marks.now) z =
+    subst (λ (y : ℤ). IsWithin places (length c.args.marks.now) y) (sym c.lit-item.is) (c.requires i z lt) in
     let size : length c.loop-lit.marks ≡ length c.args.marks.now = c.loop-lit.invariant.sized in
     let below : w.place < length c.args.marks.now = w.below in
-    subst (λ (cl : List ℤ). Marks places cl c.args.marks.now (set mid (get_or places c.var.result 0) true)) (sym (next_lit clause i z lt c.lit-item.is))
-    (subst (λ (p : ℕ). Marks places (take i clause ++ z ∷ []) c.args.marks.now (set mid p true)) (sym (read_place places (length c.args.marks.now) z c.var.result w c.var.ensures.value))
+    subst (λ (cl : List ℤ). Marks places cl c.args.marks.now (set mid (get_or places c.var.result 0) true))
+    (sym (next_lit clause i z lt c.lit-item.is))
+    (subst (λ (p : ℕ). Marks places (take i clause ++ z ∷ []) c.args.marks.now (set mid p true))
+    (sym (read_place places (length c.args.marks.now) z c.var.result w c.var.ensures.value))
     (Marks_push places (take i clause) z w.place c.args.marks.now mid w.there (omega arith) c.loop-lit.invariant))

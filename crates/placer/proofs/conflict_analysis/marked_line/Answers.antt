@@ -22,13 +22,16 @@ loop-index-preserved c =
     (subst (λ (a : Assignment). ArePlaces c.args.board.now.list.vars a.entries places) (sym value) c.requires.places) in
     record {
       clause = c.in_ok-add_where.ensures.clause
-          ∙ ap (λ r. c.loop-index.clause.items ++ (if get_or marks i false && not r then neg_ℤ e.lit ∷ [] else [])) c.resolves-resolved.ensures
-          ∙ ap (λ b. c.loop-index.clause.items ++ (if b then neg_ℤ e.lit ∷ [] else [])) (sym (kept_is c.trail-trail.result.now.vars es places marks point i e t p c.entry-entry.ensures))
+          ∙ ap (λ r. c.loop-index.clause.items ++ (if get_or marks i false && not r then neg_ℤ e.lit ∷ [] else []))
+          c.resolves-resolved.ensures
+          ∙ ap (λ b. c.loop-index.clause.items ++ (if b then neg_ℤ e.lit ∷ [] else []))
+          (sym (kept_is c.trail-trail.result.now.vars es places marks point i e t p c.entry-entry.ensures))
           ∙ ap (λ l. l ++ negation_if (is_kept es places marks point) e) c.loop-index.invariant.clause
           ∙ sym (flat_map-there (negation_if (is_kept es places marks point)) es i e c.entry-entry.ensures);
       hints = c.in_ok-add_where.ensures.hints
           ∙ ap (λ r. c.loop-index.hints.items ++ (if get_or marks i false && r then e.reason ∷ [] else [])) c.resolves-resolved.ensures
-          ∙ ap (λ b. c.loop-index.hints.items ++ (if b then e.reason ∷ [] else [])) (sym (used_is c.trail-trail.result.now.vars es places marks point i e t p c.entry-entry.ensures))
+          ∙ ap (λ b. c.loop-index.hints.items ++ (if b then e.reason ∷ [] else []))
+          (sym (used_is c.trail-trail.result.now.vars es places marks point i e t p c.entry-entry.ensures))
           ∙ ap (λ l. l ++ reason_if (is_used es places marks point) e) c.loop-index.invariant.hints
           ∙ sym (flat_map-there (reason_if (is_used es places marks point)) es i e c.entry-entry.ensures);
     }

@@ -11,12 +11,16 @@ use Rattle.propagate.specs.Standing.{Standing, IsSound}
 use Rattle.placer.proofs.ChangedPlaces.{get_set_same, get_set_other}
 use Rattle.placer.proofs.conflict_analysis.places_of.Goals as goal
 
-in-range : (b : Standing) (read : Assignment) (i : ℕ) (e : Entry) → read ≡ b.trail → IsSound b → IsTrail read.vars read.entries → slice_get read.entries i ≡ Some e → var_of e.lit ≤ b.list.vars
-in-range b read i e value sound t there = subst (λ (v : ℕ). var_of e.lit ≤ v) (ap (λ (a : Assignment). a.vars) value ∙ sound.same_vars) (t i e there).in_range
+in-range : (b : Standing) (read : Assignment) (i : ℕ) (e : Entry) → read ≡ b.trail → IsSound b → IsTrail read.vars read.entries
+    → slice_get read.entries i ≡ Some e → var_of e.lit ≤ b.list.vars
+in-range b read i e value sound t there =
+    subst (λ (v : ℕ). var_of e.lit ≤ v) (ap (λ (a : Assignment). a.vars) value ∙ sound.same_vars) (t i e there).in_range
 
 pub index_mut-requires : goal.index_mut-requires
 index_mut-requires c =
-    let low : var_of c.entry.result.lit ≤ c.args.board.now.list.vars = in-range c.args.board.now c.trail-trail.result.now c.loop-index.index c.entry.result c.trail-trail.ensures.trail c.trail-trail.ensures.sound c.len-index-end.ensures.ordered c.entry.ensures in
+    let low : var_of c.entry.result.lit ≤ c.args.board.now.list.vars =
+    in-range c.args.board.now c.trail-trail.result.now c.loop-index.index c.entry.result c.trail-trail.ensures.trail
+    c.trail-trail.ensures.sound c.len-index-end.ensures.ordered c.entry.ensures in
     let size : length c.loop-index.places.items ≡ c.args.board.now.list.vars + 1 = c.loop-index.invariant.sized in
     omega (arith, low, size, c.var-var.ensures.value, c.loop-index.places.ok)
 
@@ -29,7 +33,9 @@ loop-index-preserved c =
     let v = c.var-var.result in
     let there : slice_get es i ≡ Some e = c.entry.ensures in
     let l : IsLevelled es = IsTrail-levelled c.trail-trail.result.now.vars es c.len-index-end.ensures.ordered in
-    let low : var_of e.lit ≤ c.args.board.now.list.vars = in-range c.args.board.now c.trail-trail.result.now i e c.trail-trail.ensures.trail c.trail-trail.ensures.sound c.len-index-end.ensures.ordered there in
+    let low : var_of e.lit ≤ c.args.board.now.list.vars =
+    in-range c.args.board.now c.trail-trail.result.now i e c.trail-trail.ensures.trail c.trail-trail.ensures.sound
+    c.len-index-end.ensures.ordered there in
     let size : length places ≡ c.args.board.now.list.vars + 1 = c.loop-index.invariant.sized in
     let var : v ≡ var_of e.lit = c.var-var.ensures.value in
     let within : v < length places = omega arith in
@@ -39,12 +45,15 @@ loop-index-preserved c =
           (λ (before : k < i).
           let inside : i < length es = slice_get_within es i e there in
           let apart : var_of (get_or es k d).lit ≢ var_of (get_or es i d).lit = l.apart k i d before inside in
-          let ne : var_of d.lit ≢ v = λ s. apart (ap (λ (x : Entry). var_of x.lit) (get_or_from_slice_get es k d d at) ∙ s ∙ var ∙ ap (λ (x : Entry). var_of x.lit) (sym (get_or_from_slice_get es i e d there))) in
+          let ne : var_of d.lit ≢ v =
+          λ s. apart (ap (λ (x : Entry). var_of x.lit) (get_or_from_slice_get es k d d at) ∙ s ∙ var
+          ∙ ap (λ (x : Entry). var_of x.lit) (sym (get_or_from_slice_get es i e d there))) in
           get_set_other places v (var_of d.lit) i ne ∙ c.loop-index.invariant.told k d before at)
           (λ (past : i ≤ k).
           let same : k ≡ i = omega arith in
           let is : d ≡ e = same_Some d e (sym at ∙ ap (slice_get es) same ∙ there) in
-          ap (slice_get (set places v i)) (ap (λ (x : Entry). var_of x.lit) is ∙ sym var) ∙ get_set_same places v i within ∙ ap Some (sym same))
+          ap (slice_get (set places v i)) (ap (λ (x : Entry). var_of x.lit) is ∙ sym var) ∙ get_set_same places v i within
+          ∙ ap Some (sym same))
           (cases_lt k i);
     }
 
@@ -57,5 +66,6 @@ returns c =
       told = λ i e there.
           let lt : i < length es = slice_get_within es i e there in
           let len : length c.trail-trail.result.now.entries ≡ length es = ap (λ (a : Assignment). length a.entries) value in
-          c.loop-index.invariant.told i e (omega (arith, len, c.len-index-end.ensures.len)) (ap (λ (a : Assignment). slice_get a.entries i) value ∙ there);
+          c.loop-index.invariant.told i e (omega (arith, len, c.len-index-end.ensures.len))
+          (ap (λ (a : Assignment). slice_get a.entries i) value ∙ there);
     }

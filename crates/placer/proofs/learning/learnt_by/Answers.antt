@@ -13,7 +13,8 @@ pub close_marks-requires-clause-begun : goal.close_marks-requires-clause-begun
 close_marks-requires-clause-begun c =
     let b = c.args.board.now in
     let t = ordered b c.trail-trail.result.now c.trail-trail.ensures.trail c.trail-trail.ensures.sound c.len-ordered.ensures.ordered in
-    begun_at b.list.vars b.list.clauses b.trail.entries c.args.conflict c.first_point-point.result c.first_point-point.new.marks t c.first_point-point.ensures.at c.requires.above
+    begun_at b.list.vars b.list.clauses b.trail.entries c.args.conflict c.first_point-point.result c.first_point-point.new.marks t
+    c.first_point-point.ensures.at c.requires.above
 
 pub back_of-back-requires : goal.back_of-back-requires
 back_of-back-requires c =
@@ -24,8 +25,11 @@ back_of-back-requires c =
     let clause : List ℤ = flat_map (negation_if (is_kept es places c.close_marks.new.marks c.first_point-point.result)) es in
     let le : length es ≤ length es = omega arith in
     let is : c.as_slice.result.now ≡ clause = c.as_slice.ensures ∙ c.in_ok-line.ensures.clause in
-    let all : All (IsWithin places (length es)) clause = within_false b.list.vars b.list.clauses es places t c.trail-trail.ensures.sound.forced c.requires.places clause (length es) le
-    (false_kept b.list.vars b.list.clauses es places t c.trail-trail.ensures.sound.forced c.requires.places c.args.conflict c.first_point-point.result c.first_point-point.new.marks c.close_marks.new.marks c.requires.conflict c.first_point-point.ensures.at c.close_marks.ensures c.requires.above) in
+    let all : All (IsWithin places (length es)) clause =
+    within_false b.list.vars b.list.clauses es places t c.trail-trail.ensures.sound.forced c.requires.places clause (length es) le
+    (false_kept b.list.vars b.list.clauses es places t c.trail-trail.ensures.sound.forced c.requires.places c.args.conflict
+    c.first_point-point.result c.first_point-point.new.marks c.close_marks.new.marks c.requires.conflict
+    c.first_point-point.ensures.at c.close_marks.ensures c.requires.above) in
     subst (λ (a : Assignment). All (IsWithin places (length a.entries)) c.as_slice.result.now) (sym c.trail-trail.ensures.trail)
     (subst (λ (cl : List ℤ). All (IsWithin places (length es)) cl) (sym is) all)
 
@@ -33,7 +37,10 @@ pub returns-clause-derived : goal.returns-clause-derived
 returns-clause-derived c =
     let b = c.args.board.now in
     let t = ordered b c.trail-trail.result.now c.trail-trail.ensures.trail c.trail-trail.ensures.sound c.len-ordered.ensures.ordered in
-    Derived_kept b.list.vars b.list.clauses b.trail.entries c.args.places.now t c.trail-trail.ensures.sound.forced c.requires.places c.args.conflict c.first_point-point.result c.first_point-point.new.marks c.close_marks.new.marks c.requires.conflict c.first_point-point.ensures.at c.close_marks.ensures c.requires.above c.in_ok-line.line c.in_ok-line.ensures.clause c.in_ok-line.ensures.hints
+    Derived_kept b.list.vars b.list.clauses b.trail.entries c.args.places.now t c.trail-trail.ensures.sound.forced c.requires.places
+    c.args.conflict c.first_point-point.result c.first_point-point.new.marks c.close_marks.new.marks c.requires.conflict
+    c.first_point-point.ensures.at c.close_marks.ensures c.requires.above c.in_ok-line.line c.in_ok-line.ensures.clause
+    c.in_ok-line.ensures.hints
 
 pub returns-clause-asserts : goal.returns-clause-asserts
 returns-clause-asserts c =
@@ -44,14 +51,20 @@ returns-clause-asserts c =
     let back = c.back_of-back.result in
     let t = ordered b c.trail-trail.result.now c.trail-trail.ensures.trail c.trail-trail.ensures.sound c.len-ordered.ensures.ordered in
     let is = c.as_slice.ensures ∙ c.in_ok-line.ensures.clause in
-    let levels : IsBack es places point c.as_slice.result.now back = subst (λ (a : Assignment). IsBack a.entries places point c.as_slice.result.now back) c.trail-trail.ensures.trail c.back_of-back.ensures in
+    let levels : IsBack es places point c.as_slice.result.now back =
+    subst (λ (a : Assignment). IsBack a.entries places point c.as_slice.result.now back)
+    c.trail-trail.ensures.trail c.back_of-back.ensures in
     let most = subst (λ (cl : List ℤ). IsBack es places point cl back) is levels in
     subst (λ (cl : List ℤ). Asserts es cl back) (sym c.in_ok-line.ensures.clause)
-    (Asserts_kept b.list.vars b.list.clauses es places t c.trail-trail.ensures.sound.forced c.requires.places c.args.conflict point c.first_point-point.new.marks c.close_marks.new.marks c.requires.conflict c.first_point-point.ensures.at c.close_marks.ensures c.requires.above back most)
+    (Asserts_kept b.list.vars b.list.clauses es places t c.trail-trail.ensures.sound.forced c.requires.places c.args.conflict point
+    c.first_point-point.new.marks c.close_marks.new.marks c.requires.conflict c.first_point-point.ensures.at c.close_marks.ensures
+    c.requires.above back most)
 
 pub returns-clause-first_point : goal.returns-clause-first_point
 returns-clause-first_point c =
     let b = c.args.board.now in
     let t = ordered b c.trail-trail.result.now c.trail-trail.ensures.trail c.trail-trail.ensures.sound c.len-ordered.ensures.ordered in
     subst (λ (cl : List ℤ). IsFirstPointClause b.list.clauses b.trail.entries c.args.conflict cl) (sym c.in_ok-line.ensures.clause)
-    (IsFirstPointClause_kept b.list.vars b.list.clauses b.trail.entries c.args.places.now t c.trail-trail.ensures.sound.forced c.requires.places c.args.conflict c.first_point-point.result c.first_point-point.new.marks c.close_marks.new.marks c.requires.conflict c.first_point-point.ensures.at c.close_marks.ensures c.requires.above)
+    (IsFirstPointClause_kept b.list.vars b.list.clauses b.trail.entries c.args.places.now t c.trail-trail.ensures.sound.forced
+    c.requires.places c.args.conflict c.first_point-point.result c.first_point-point.new.marks c.close_marks.new.marks
+    c.requires.conflict c.first_point-point.ensures.at c.close_marks.ensures c.requires.above)

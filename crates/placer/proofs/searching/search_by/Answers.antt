@@ -12,26 +12,34 @@ use Rattle.placer.proofs.searching.search_by.Goals as goal
 
 pub returns-then-level-eq0-clause-stands : goal.returns-then-level-eq0-clause-stands
 returns-then-level-eq0-clause-stands c =
-    let k : HasLearned c.args.list c.settle.new.self c.turns.lines.items = HasLearned-list c.args.list c.turns.board c.settle.new.self c.turns.lines.items c.turns.invariant.learned c.in_ok-settled.ensures.list in
+    let k : HasLearned c.args.list c.settle.new.self c.turns.lines.items =
+    HasLearned-list c.args.list c.turns.board c.settle.new.self c.turns.lines.items c.turns.invariant.learned
+    c.in_ok-settled.ensures.list in
     c.refuted.ensures.stands c.args.list c.args.budget k c.turns.invariant.few
 
 pub returns-then-len-budget-clause-stands : goal.returns-then-len-budget-clause-stands
 returns-then-len-budget-clause-stands c =
-    let k : HasLearned c.args.list c.settle.new.self c.turns.lines.items = HasLearned-list c.args.list c.turns.board c.settle.new.self c.turns.lines.items c.turns.invariant.learned c.in_ok-settled.ensures.list in
+    let k : HasLearned c.args.list c.settle.new.self c.turns.lines.items =
+    HasLearned-list c.args.list c.turns.board c.settle.new.self c.turns.lines.items c.turns.invariant.learned
+    c.in_ok-settled.ensures.list in
     let count : length c.turns.lines.items ≡ c.args.budget = omega (arith, c.turns.lines.ok, c.len.ensures, c.if-len-budget.true) in
     subst (λ (n : ℕ). IfOk c.undecided.result (Stands c.args.list n)) count (c.undecided.ensures.stands c.args.list k)
 
 pub returns-then-len-budget-clause-decided : goal.returns-then-len-budget-clause-decided
 returns-then-len-budget-clause-decided c = λ enough.
-    let k : HasLearned c.args.list c.settle.new.self c.turns.lines.items = HasLearned-list c.args.list c.turns.board c.settle.new.self c.turns.lines.items c.turns.invariant.learned c.in_ok-settled.ensures.list in
+    let k : HasLearned c.args.list c.settle.new.self c.turns.lines.items =
+    HasLearned-list c.args.list c.turns.board c.settle.new.self c.turns.lines.items c.turns.invariant.learned
+    c.in_ok-settled.ensures.list in
     let count : length c.turns.lines.items ≡ c.args.budget = omega (arith, c.turns.lines.ok, c.len.ensures, c.if-len-budget.true) in
     c.undecided.ensures.few c.args.list k (omega (arith, count, enough))
 
 pub turns-preserved-in_ok-learn_from-in-Conflict : goal.turns-preserved-in_ok-learn_from-in-Conflict
 turns-preserved-in_ok-learn_from-in-Conflict c =
     let b = c.settle.new.self in
-    let k : HasLearned c.args.list b c.turns.lines.items = HasLearned-list c.args.list c.turns.board b c.turns.lines.items c.turns.invariant.learned c.in_ok-settled.ensures.list in
-    let r = HasLearned-push c.args.list b c.learn_from.new.board c.turns.lines.items c.learn_from.new.lines.items k c.in_ok-learn_from-in-Conflict.ensures in
+    let k : HasLearned c.args.list b c.turns.lines.items =
+    HasLearned-list c.args.list c.turns.board b c.turns.lines.items c.turns.invariant.learned c.in_ok-settled.ensures.list in
+    let r = HasLearned-push c.args.list b c.learn_from.new.board c.turns.lines.items c.learn_from.new.lines.items k
+    c.in_ok-learn_from-in-Conflict.ensures in
     let grown : length c.learn_from.new.lines.items ≡ length c.turns.lines.items + 1 = r.1 in
     let few : length c.turns.lines.items ≤ c.args.budget = c.turns.invariant.few in
     let ne : c.len.result ≢ c.args.budget = c.if-len-budget.false in
@@ -41,7 +49,11 @@ turns-preserved-in_ok-learn_from-in-Conflict c =
 pub returns-in-None-clause-stands : goal.returns-in-None-clause-stands
 returns-in-None-clause-stands c =
     let b = c.settle.new.self in
-    let k : HasLearned c.args.list b c.turns.lines.items = HasLearned-list c.args.list c.turns.board b c.turns.lines.items c.turns.invariant.learned c.in_ok-settled.ensures.list in
-    let valid : All (IsClause b.list.vars) b.list.clauses = subst (λ (x : Clauses). All (IsClause x.vars) x.clauses) c.list.ensures.list c.vars-vars.ensures.valid in
-    let done : AreSettled (lits_of b.trail.entries) b.list.clauses = subst (λ (s : Settled). Ends b s) c.in-Done.is c.in_ok-settled.ensures.ends in
-    IsModel-settled c.args.list b c.turns.lines.items c.in_ok-truths_of-in-None.field-0 k valid done c.in-None.ensures.all c.in_ok-truths_of-in-None.ensures.sized c.in_ok-truths_of-in-None.ensures.each
+    let k : HasLearned c.args.list b c.turns.lines.items =
+    HasLearned-list c.args.list c.turns.board b c.turns.lines.items c.turns.invariant.learned c.in_ok-settled.ensures.list in
+    let valid : All (IsClause b.list.vars) b.list.clauses =
+    subst (λ (x : Clauses). All (IsClause x.vars) x.clauses) c.list.ensures.list c.vars-vars.ensures.valid in
+    let done : AreSettled (lits_of b.trail.entries) b.list.clauses =
+    subst (λ (s : Settled). Ends b s) c.in-Done.is c.in_ok-settled.ensures.ends in
+    IsModel-settled c.args.list b c.turns.lines.items c.in_ok-truths_of-in-None.field-0 k valid done c.in-None.ensures.all
+    c.in_ok-truths_of-in-None.ensures.sized c.in_ok-truths_of-in-None.ensures.each

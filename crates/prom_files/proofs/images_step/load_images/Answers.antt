@@ -18,7 +18,8 @@ loop-number-preserved g c = record {
       (g.S.Shelf.state c.loop-number.shelf) (g.S.Shelf.state c.load_numbered.new.shelf) c.loop-number.images.items c.in-Ok.image
       c.loop-number.invariant.had c.in-Ok.ensures.step);
   same = c.in-Ok.ensures.same ∙ c.loop-number.invariant.same;
-  goes_on = goes_on_both (g.S.Shelf.state c.args.shelf.now) (g.S.Shelf.state c.loop-number.shelf) (g.S.Shelf.state c.load_numbered.new.shelf) c.loop-number.invariant.goes_on c.in-Ok.ensures.goes_on;
+  goes_on = goes_on_both (g.S.Shelf.state c.args.shelf.now) (g.S.Shelf.state c.loop-number.shelf)
+      (g.S.Shelf.state c.load_numbered.new.shelf) c.loop-number.invariant.goes_on c.in-Ok.ensures.goes_on;
 }
 
 pub returns-in-Err-clause-step : goal.returns-in-Err-clause-step

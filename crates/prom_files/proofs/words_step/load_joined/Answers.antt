@@ -11,5 +11,6 @@ unreachable-requires-in-Err-PromWidth g c =
 pub unreachable-requires : goal.unreachable-requires
 unreachable-requires g c =
     no_other_count c.args.out.now (declaration_of c.args.decl.now) (g.S.Shelf.state c.args.shelf.now)
-    (g.S.Shelf.state c.load_images.new.shelf) c.in-Ok.images.items c.prom_count.result c.in-Err-PromCount.field-0-0 c.in-Ok.ensures.step c.prom_count.ensures
+    (g.S.Shelf.state c.load_images.new.shelf)
+    c.in-Ok.images.items c.prom_count.result c.in-Err-PromCount.field-0-0 c.in-Ok.ensures.step c.prom_count.ensures
     (rw c.deref.ensures.value at rw c.in-Err-PromCount.field-0-is at c.in-Err-PromCount.ensures.refused)

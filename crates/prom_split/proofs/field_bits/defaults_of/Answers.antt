@@ -6,7 +6,8 @@ use Rattle.prom_split.proofs.FieldBits.{defaults_few, defaults_held}
 use Rattle.prom_split.proofs.field_bits.defaults_of.Goals as goal
 
 pub push-requires : goal.push-requires
-push-requires c = defaults_few c.args.fields.now c.loop-field.field-index c.loop-field.values c.requires.sized c.requires.narrow (omega arith) c.loop-field.invariant
+push-requires c = defaults_few c.args.fields.now c.loop-field.field-index c.loop-field.values c.requires.sized c.requires.narrow
+    (omega arith) c.loop-field.invariant
 
 pub returns-clause-held : goal.returns-clause-held
 returns-clause-held c =

@@ -9,13 +9,16 @@ loop-place-init c = turned_none _ _ _ refl
 
 -- the number after a turn
 next : (c : goal.After-from) → Turned c.args.fields.now c.args.values.now (c.loop-place.place - 1)
-    (c.loop-place.number * 2 ^ (get_or c.args.fields.now (c.loop-place.place - 1) c.index-fields-place.result).width % 340282366920938463463374607431768211456 + c.from.result)
+    (c.loop-place.number * 2 ^ (get_or c.args.fields.now (c.loop-place.place - 1) c.index-fields-place.result).width
+    % 340282366920938463463374607431768211456 + c.from.result)
 next c =
     let at : slice_get c.args.fields.now (c.loop-place.place - 1) ≡ Some c.index-fields-place.result =
     slice_get_read c.args.fields.now _ (c.loop-place.place - 1) c.index-fields-place.result refl (omega arith) c.index-fields-place.is in
-    joined_step c.args.fields.now c.args.values.now c.loop-place.place (c.loop-place.place - 1) c.loop-place.number c.index-fields-place.result
+    joined_step c.args.fields.now c.args.values.now c.loop-place.place (c.loop-place.place - 1)
+    c.loop-place.number c.index-fields-place.result
     (get_or c.args.fields.now (c.loop-place.place - 1) c.index-fields-place.result).width c.from.result
-    c.requires.values c.requires.narrow at (omega arith) (ap (λ (field : Field). field.width) (sym c.index-fields-place.is)) c.from.ensures c.loop-place.invariant
+    c.requires.values c.requires.narrow at (omega arith) (ap (λ (field : Field). field.width) (sym c.index-fields-place.is))
+    c.from.ensures c.loop-place.invariant
 
 pub overflow_add-number : goal.overflow_add-number
 overflow_add-number c = omega (arith, turned_fits _ _ _ _ c.requires.narrow (next c))

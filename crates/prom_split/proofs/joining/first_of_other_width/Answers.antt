@@ -18,8 +18,10 @@ loop-place-preserved c = λ k image lt at. elim (cases_lt k c.loop-place.place) 
   | inl before ↦ c.loop-place.invariant k image before at
   | inr after ↦
       (let here : k ≡ c.loop-place.place = omega arith in
-      let read : slice_get c.args.proms.now c.loop-place.place ≡ Some c.index-proms-place.result = slice_get_read c.args.proms.now _ c.loop-place.place c.index-proms-place.result refl (omega arith) c.index-proms-place.is in
-      let same : c.index-proms-place.result ≡ image = some_back c.index-proms-place.result image (sym read ∙ ap (slice_get c.args.proms.now) (sym here) ∙ at) in
+      let read : slice_get c.args.proms.now c.loop-place.place ≡ Some c.index-proms-place.result =
+      slice_get_read c.args.proms.now _ c.loop-place.place c.index-proms-place.result refl (omega arith) c.index-proms-place.is in
+      let same : c.index-proms-place.result ≡ image =
+      some_back c.index-proms-place.result image (sym read ∙ ap (slice_get c.args.proms.now) (sym here) ∙ at) in
       let P : Image → Type 0 = λ x. IsImage x × (x.bits ≡ c.args.bits) in
       subst P same (c.bits.ensures.image, sym c.bits.ensures.bits ∙ c.if-bits.false))
 ]

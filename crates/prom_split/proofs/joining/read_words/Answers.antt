@@ -10,7 +10,10 @@ loop-address-preserved c =
     let decl = c.args.decl.now in
     let width = width_of (declaration_of decl) in
     let number = c.number_at-number.result in
-    let room : width ≤ length c.args.proms.now * decl.prom_bits = rw c.requires.count (cover width decl.prom_bits (width_is decl.prom_bits decl.valid.bits)).room in
-    let low : c.low_bits.result ≡ number % 2 ^ width = c.low_bits.ensures.low ∙ ap (λ (w : ℕ). number % 2 ^ w) c.word_width-width.ensures in
+    let room : width ≤ length c.args.proms.now * decl.prom_bits =
+    rw c.requires.count (cover width decl.prom_bits (width_is decl.prom_bits decl.valid.bits)).room in
+    let low : c.low_bits.result ≡ number % 2 ^ width = c.low_bits.ensures.low
+    ∙ ap (λ (w : ℕ). number % 2 ^ w) c.word_width-width.ensures in
     rw (c.in_ok-push.ensures.items, low)
-    (read_push width decl.prom_bits c.args.proms.now c.loop-address.address c.loop-address.words.items number c.loop-address.invariant (λ bit lt. c.number_at-number.ensures.shown bit (omega (arith, room, lt))))
+    (read_push width decl.prom_bits c.args.proms.now c.loop-address.address c.loop-address.words.items number c.loop-address.invariant
+    (λ bit lt. c.number_at-number.ensures.shown bit (omega (arith, room, lt))))

@@ -10,6 +10,8 @@ instr_word-requires c = rw c.decl.ensures (c.args.program.now.fits.each c.in-Som
 
 pub returns-in-Some-clause-word : goal.returns-in-Some-clause-word
 returns-in-Some-clause-word c =
-    word_of_label (graph_of c.args.program.now) c.args.placement.now c.in-Some.label c.instr.result.now c.args.cell c.jump_of.result c.instr_word.result c.requires c.instr.ensures c.in-Some.ensures.some
+    word_of_label (graph_of c.args.program.now)
+    c.args.placement.now c.in-Some.label c.instr.result.now c.args.cell c.jump_of.result c.instr_word.result c.requires
+    c.instr.ensures c.in-Some.ensures.some
     (c.jump_of.ensures c.instr.result.now c.args.cell c.instr.ensures c.in-Some.ensures.some)
     (c.instr_word.ensures.word ∙ ap (λ (decl : Declaration). word_with decl (Some c.instr.result.now) c.jump_of.result) c.decl.ensures)

@@ -12,4 +12,6 @@ loop-address-preserved c =
     let in_matrix : IsCell c.at-cell.result = subst (λ (p : Position). IsCell p) (sym cell) in_range in
     let here : address_of c.at-cell.result ≡ address = ap address_of cell ∙ omega arith in
     rw c.in_ok-push.ensures.items
-    (placed_push (graph_of c.args.program.now) c.args.placement.now address c.loop-address.words.items c.at-cell.result c.word_of.result c.loop-address.invariant in_matrix here c.word_of.ensures.word c.word_of.ensures.fits)
+    (placed_push (graph_of c.args.program.now)
+    c.args.placement.now address c.loop-address.words.items c.at-cell.result c.word_of.result c.loop-address.invariant in_matrix here
+    c.word_of.ensures.word c.word_of.ensures.fits)

@@ -8,16 +8,19 @@ use Rattle.prom_split.proofs.Widths.{width_is, width_some, cover}
 use Rattle.prom_split.proofs.splitting.split.Goals as goal
 
 -- the image that a turn makes
-made : (c : goal.After-of) → image_with c.args.decl.now.prom_bits c.of.result ≡ image_of c.args.decl.now.prom_bits c.args.words.now c.loop-place.place
+made : (c : goal.After-of)
+    → image_with c.args.decl.now.prom_bits c.of.result ≡ image_of c.args.decl.now.prom_bits c.args.words.now c.loop-place.place
 made c =
     ap (image_with c.args.decl.now.prom_bits) c.of.ensures
     ∙ image_is c.args.decl.now.prom_bits c.args.words.now c.loop-place.place c.from.result c.in_ok-bytes.bytes.items c.from.ensures
-    (c.in_ok-bytes.ensures ∙ ap (map (λ word. word / 2 ^ (c.loop-place.place * c.from.result) % 2 ^ c.args.decl.now.prom_bits)) c.as_slice.ensures.words)
+    (c.in_ok-bytes.ensures
+    ∙ ap (map (λ word. word / 2 ^ (c.loop-place.place * c.from.result) % 2 ^ c.args.decl.now.prom_bits)) c.as_slice.ensures.words)
 
 pub new-requires : goal.new-requires
 new-requires c =
     let decl = c.args.decl.now in
-    subst (λ (image : Image). IsImage image) (sym (made c)) (image_of_fits decl.prom_bits c.args.words.now c.loop-place.place (width_is decl.prom_bits decl.valid.bits) c.requires.count)
+    subst (λ (image : Image). IsImage image) (sym (made c))
+    (image_of_fits decl.prom_bits c.args.words.now c.loop-place.place (width_is decl.prom_bits decl.valid.bits) c.requires.count)
 
 pub loop-place-preserved : goal.loop-place-preserved
 loop-place-preserved c =
@@ -26,7 +29,8 @@ loop-place-preserved c =
     ∙ ap (image_with bits) c.of.ensures
     ∙ image_is bits c.args.words.now c.loop-place.place c.from.result c.in_ok-bytes.bytes.items c.from.ensures
     (c.in_ok-bytes.ensures ∙ ap (map (λ word. word / 2 ^ (c.loop-place.place * c.from.result) % 2 ^ bits)) c.as_slice.ensures.words) in
-    rw c.in_ok-push.ensures.items (written_push bits c.args.words.now c.loop-place.place c.loop-place.proms.items c.new.result c.loop-place.invariant same)
+    rw c.in_ok-push.ensures.items
+    (written_push bits c.args.words.now c.loop-place.place c.loop-place.proms.items c.new.result c.loop-place.invariant same)
 
 pub returns : goal.returns
 returns c =
@@ -34,5 +38,6 @@ returns c =
     let width = width_is decl.prom_bits decl.valid.bits in
     let all : c.loop-place.place ≡ c.prom_count-place-end.result = omega arith in
     let room = (cover (width_of (declaration_of decl)) decl.prom_bits width).room in
-    are_images (declaration_of decl) c.args.words.now c.loop-place.place c.loop-place.proms.items width (width_some decl.prom_bits width) c.requires (all ∙ c.prom_count-place-end.ensures)
+    are_images (declaration_of decl) c.args.words.now c.loop-place.place c.loop-place.proms.items width (width_some decl.prom_bits width)
+    c.requires (all ∙ c.prom_count-place-end.ensures)
     (rw (all ∙ c.prom_count-place-end.ensures) room) c.loop-place.invariant

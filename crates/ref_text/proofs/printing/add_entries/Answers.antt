@@ -5,4 +5,5 @@ use Rattle.ref_text.proofs.printing.add_entries.Goals as goal
 pub returns-in_err-add_entry-clause-err : goal.returns-in_err-add_entry-clause-err
 returns-in_err-add_entry-clause-err c =
     let p = err_from_is_err_and c.from_residual.result c.from_residual.ensures.1 in
-    rw p.1 (Begins-front c.args.out.now.items _ c.loop-entry.out.items c.add_entry.new.out.items c.loop-entry.invariant c.in_err-add_entry.ensures.err)
+    rw p.1 (Begins-front c.args.out.now.items _ c.loop-entry.out.items c.add_entry.new.out.items c.loop-entry.invariant
+    c.in_err-add_entry.ensures.err)

@@ -9,12 +9,14 @@ pub returns-clause-value : goal.returns-clause-value
 returns-clause-value c =
     let ten : length c.args.regs.now.r ≡ 10 = search rules in
     rw (c.set_mar.ensures.value, c.set-3.ensures.value, c.set-2.ensures.value)
-    (digit_is c.args.j (registers_of c.args.regs.now) c.loop-number.slice.r c.loop-number.invariant.ten ten (λ n h. c.loop-number.invariant.filled n (omega arith)))
+    (digit_is c.args.j (registers_of c.args.regs.now) c.loop-number.slice.r c.loop-number.invariant.ten ten
+    (λ n h. c.loop-number.invariant.filled n (omega arith)))
 
 pub returns-clause-below : goal.returns-clause-below
 returns-clause-below c =
     let ten : length c.args.regs.now.r ≡ 10 = search rules in
     let is : c.set_mar.new.self ≡ digit c.args.j (registers_of c.args.regs.now) =
     rw (c.set_mar.ensures.value, c.set-3.ensures.value, c.set-2.ensures.value)
-    (digit_is c.args.j (registers_of c.args.regs.now) c.loop-number.slice.r c.loop-number.invariant.ten ten (λ n h. c.loop-number.invariant.filled n (omega arith))) in
+    (digit_is c.args.j (registers_of c.args.regs.now) c.loop-number.slice.r c.loop-number.invariant.ten ten
+    (λ n h. c.loop-number.invariant.filled n (omega arith))) in
     subst (λ (w : Registers). AllBelow 4 w) (sym is) (digit_below c.args.j (registers_of c.args.regs.now) ten)

@@ -15,9 +15,12 @@ joined-regs-requires-clause-regs c =
 pub joined-regs-requires-clause-slice : goal.joined-regs-requires-clause-slice
 joined-regs-requires-clause-slice c =
     let within : c.loop-j.j - 1 < length c.args.slices.now = search rules in
-    subst (λ (w : Registers). AllBelow 4 w) (sym c.index-slices-j.is) (all_at c.args.slices.now (c.loop-j.j - 1) c.index-slices-j.result within c.requires.digits)
+    subst (λ (w : Registers). AllBelow 4 w) (sym c.index-slices-j.is)
+    (all_at c.args.slices.now (c.loop-j.j - 1) c.index-slices-j.result within c.requires.digits)
 
 pub returns-clause-below : goal.returns-clause-below
 returns-clause-below c =
-    let all : drop c.loop-j.j c.args.slices.now ≡ c.args.slices.now = let zero : c.loop-j.j ≡ 0 = search rules in ap (λ (n : ℕ). drop n c.args.slices.now) zero in
-    subst (λ (w : Registers). AllBelow (4 ^ length c.args.slices.now) w) (sym (c.loop-j.invariant ∙ ap whole all)) (whole_below c.args.slices.now c.requires.digits)
+    let all : drop c.loop-j.j c.args.slices.now ≡ c.args.slices.now = let zero : c.loop-j.j ≡ 0 = search rules in
+    ap (λ (n : ℕ). drop n c.args.slices.now) zero in
+    subst (λ (w : Registers). AllBelow (4 ^ length c.args.slices.now) w) (sym (c.loop-j.invariant ∙ ap whole all))
+    (whole_below c.args.slices.now c.requires.digits)

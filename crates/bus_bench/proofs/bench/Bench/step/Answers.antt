@@ -6,4 +6,5 @@ use Rattle.bus_bench.proofs.bench.Bench.step.Goals as goal
 
 pub clock_on-cell-requires-clause-kbits : goal.clock_on-cell-requires-clause-kbits
 clock_on-cell-requires-clause-kbits c =
-    subst (λ (parts : WordParts). parts.kbits < 2 ^ c.args.decl.now.kbus) (sym c.parts-parts.ensures) (kbits_below (declaration_of c.args.decl.now) c.word_at.result)
+    subst (λ (parts : WordParts). parts.kbits < 2 ^ c.args.decl.now.kbus) (sym c.parts-parts.ensures)
+    (kbits_below (declaration_of c.args.decl.now) c.word_at.result)

@@ -11,7 +11,9 @@ pub returns : goal.returns
 returns c =
     let memory : c.self.inside.memory.entries ≡ c.args.self.now.memory = ap (λ (s : BusScript). s.memory) c.self.view_is in
     let clocks : c.self.inside.clocks.items ≡ c.args.self.now.clocks = ap (λ (s : BusScript). s.clocks) c.self.view_is in
-    let absent : value_at c.self.inside.memory.entries c.args.address ≡ None = ap (λ (m : List (ℕ × ℕ)). value_at m c.args.address) memory ∙ c.requires in
+    let absent : value_at c.self.inside.memory.entries c.args.address ≡ None = ap (λ (m : List (ℕ × ℕ)). value_at m c.args.address) memory
+    ∙ c.requires in
     let added = c.in_ok-insert.ensures.entries ∙ insert_entry-new nat_eq c.self.inside.memory c.args.address c.args.value absent in
-    ap (λ (m : List (ℕ × ℕ)). script_with m c.self.inside.clocks.items) (added ∙ ap (λ (m : List (ℕ × ℕ)). m ++ (c.args.address, c.args.value) ∷ []) memory)
+    ap (λ (m : List (ℕ × ℕ)). script_with m c.self.inside.clocks.items)
+    (added ∙ ap (λ (m : List (ℕ × ℕ)). m ++ (c.args.address, c.args.value) ∷ []) memory)
     ∙ ap (λ (k : List Buses). script_with (c.args.self.now.memory ++ (c.args.address, c.args.value) ∷ []) k) clocks

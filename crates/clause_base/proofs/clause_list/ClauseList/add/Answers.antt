@@ -13,13 +13,21 @@ pub invariant_of-self-2 : goal.invariant_of-self-2
 invariant_of-self-2 c =
     let i = c.self.inside in
     let len : c.len.result ≡ length i.lits.items = omega (arith, c.len.ensures, i.lits.ok) in
-    let few : length i.starts.items < 2 ^ 32 = omega (arith, length-pieces i.lits.items (length i.lits.items) i.starts.items c.self.invariant.in_order, ap (λ l. length l.clauses) c.self.view_is, c.requires.few) in
+    let few : length i.starts.items < 2 ^ 32 =
+    omega (
+      arith,
+      length-pieces i.lits.items (length i.lits.items) i.starts.items c.self.invariant.in_order,
+      ap (λ l. length l.clauses) c.self.view_is,
+      c.requires.few,
+    ) in
     let valid : IsClause i.vars c.args.clause.now = rw (ap (λ l. l.vars) c.self.view_is) c.requires.valid in
-    rw (c.in_ok-extend_from_slice.ensures.items, c.push_reserved.ensures.items, c.reserve.ensures.items, len) (ArePool-push i.vars i.lits.items i.starts.items c.args.clause.now c.self.invariant valid few)
+    rw (c.in_ok-extend_from_slice.ensures.items, c.push_reserved.ensures.items, c.reserve.ensures.items, len)
+    (ArePool-push i.vars i.lits.items i.starts.items c.args.clause.now c.self.invariant valid few)
 
 pub returns-clause-ok : goal.returns-clause-ok
 returns-clause-ok c =
     let i = c.self.inside in
     let len : c.len.result ≡ length i.lits.items = omega (arith, c.len.ensures, i.lits.ok) in
     rw (c.in_ok-extend_from_slice.ensures.items, c.push_reserved.ensures.items, c.reserve.ensures.items, len, ← c.self.view_is)
-    (ap (λ cs. let l : Clauses = record { vars = i.vars; clauses = cs } in l) (pieces-push i.lits.items c.args.clause.now i.starts.items c.self.invariant.in_order))
+    (ap (λ cs. let l : Clauses = record { vars = i.vars; clauses = cs } in l)
+    (pieces-push i.lits.items c.args.clause.now i.starts.items c.self.invariant.in_order))

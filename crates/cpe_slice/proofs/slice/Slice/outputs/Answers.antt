@@ -9,7 +9,8 @@ returns-then-is_shift-clause-ro c = shift_ro c.args.f _ _ _ c.if-is_shift.ensure
 pub returns-then-function-lt4-clause-value : goal.returns-then-function-lt4-clause-value
 returns-then-function-lt4-clause-value c =
     let low : function_of c.args.f < 4 = search rules in
-    sum_value c.args.f _ _ _ _ _ c.if-is_shift.ensures low (c.operands-a.ensures.first c.args.ci c.args.li) (c.operands-a.ensures.second c.args.ci c.args.li)
+    sum_value c.args.f _ _ _ _ _ c.if-is_shift.ensures low (c.operands-a.ensures.first c.args.ci c.args.li)
+    (c.operands-a.ensures.second c.args.ci c.args.li)
     (c.from-then-function-lt4.ensures ∙ byte_bit c.args.ci)
 
 pub returns-then-function-lt4-clause-co : goal.returns-then-function-lt4-clause-co
@@ -27,4 +28,5 @@ returns-else-function-lt4-clause-value c =
 pub returns-else-function-lt4-clause-co : goal.returns-else-function-lt4-clause-co
 returns-else-function-lt4-clause-co c =
     let high : 4 ≤ function_of c.args.f = search rules in
-    logic_co c.args.f _ _ c.args.ci _ c.if-is_shift.ensures high c.test_word.ensures.below refl (c.test_word.ensures.value c.args.ci c.args.li)
+    logic_co c.args.f _ _ c.args.ci _ c.if-is_shift.ensures high c.test_word.ensures.below refl
+    (c.test_word.ensures.value c.args.ci c.args.li)

@@ -4,4 +4,5 @@ use Rattle.flow_graph.proofs.programs.Program.find.Given as goal
 
 -- no instruction before this label has the name
 abbrev pub invariant-loop-label : goal.invariant-loop-label
-invariant-loop-label l = (earlier : ℕ) (instr : Instr) → earlier < l.label → slice_get l.self.instrs earlier ≡ Some instr → instr.name ≢ l.name
+invariant-loop-label l = (earlier : ℕ) (instr : Instr) → earlier < l.label → slice_get l.self.instrs earlier ≡ Some instr
+    → instr.name ≢ l.name

@@ -8,5 +8,6 @@ use Rattle.micro_asm.proofs.instr_table.InstrTable.has.Goals as goal
 
 pub returns : goal.returns
 returns c =
-    c.contains.ensures ∙ ap (λ (names : List (List ℕ)). list_any (bytes_eq c.args.label.now) names) c.self.invariant ∙ label_among c.args.label.now c.self.inside.instrs.items
+    c.contains.ensures ∙ ap (λ (names : List (List ℕ)). list_any (bytes_eq c.args.label.now) names) c.self.invariant
+    ∙ label_among c.args.label.now c.self.inside.instrs.items
     ∙ ap (λ (instrs : List NamedInstr). has_label instrs c.args.label.now) c.self.view_is

@@ -8,5 +8,6 @@ use Rattle.micro_asm.proofs.instr_table.InstrTable.place.Goals as goal
 
 pub returns-clause-place : goal.returns-clause-place
 returns-clause-place c =
-    c.get_index_of.ensures.index ∙ ap (λ (names : List (List ℕ)). position (bytes_eq c.args.label.now) names) c.self.invariant ∙ place_among c.args.label.now c.self.inside.instrs.items
+    c.get_index_of.ensures.index ∙ ap (λ (names : List (List ℕ)). position (bytes_eq c.args.label.now) names) c.self.invariant
+    ∙ place_among c.args.label.now c.self.inside.instrs.items
     ∙ ap (λ (instrs : List NamedInstr). label_place instrs c.args.label.now) c.self.view_is

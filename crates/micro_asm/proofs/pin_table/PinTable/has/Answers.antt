@@ -8,5 +8,6 @@ use Rattle.micro_asm.proofs.pin_table.PinTable.has.Goals as goal
 
 pub returns : goal.returns
 returns c =
-    c.contains.ensures ∙ ap (λ (names : List (List ℕ)). list_any (bytes_eq c.args.label.now) names) c.self.invariant ∙ pinned_label c.args.label.now c.self.inside.pins.items
+    c.contains.ensures ∙ ap (λ (names : List (List ℕ)). list_any (bytes_eq c.args.label.now) names) c.self.invariant
+    ∙ pinned_label c.args.label.now c.self.inside.pins.items
     ∙ ap (λ (pins : List PinLine). is_pinned pins c.args.label.now) c.self.view_is

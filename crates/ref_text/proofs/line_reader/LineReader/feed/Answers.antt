@@ -17,13 +17,15 @@ returns-in-Some-clause-pieces c =
     let count : c.self.inside.count ≡ r.count = ap (λ (s : Reader). s.count) c.self.view_is in
     let fed : Fed = record { used = 0; event = event.Bad (c.self.inside.count + 1) c.in-Some.why } in
     let told : fed ≡ fed_of r.bad r c.args.piece.now =
-    ap (λ (n : ℕ). record { used = 0; event = event.Bad (n + 1) c.in-Some.why }) count ∙ ap (λ (o : Option Why). fed_of o r c.args.piece.now) (sym bad) in
+    ap (λ (n : ℕ). record { used = 0; event = event.Bad (n + 1) c.in-Some.why }) count
+    ∙ ap (λ (o : Option Why). fed_of o r c.args.piece.now) (sym bad) in
     feed_is r r c.args.piece.now fed told (ap (λ (o : Option Why). after_feed o r c.args.piece.now) (sym bad))
 
 pub returns-in-Ok-clause-pieces : goal.returns-in-Ok-clause-pieces
 returns-in-Ok-clause-pieces c =
     let r = c.args.self.now in
-    let bad : r.bad ≡ None = ap (λ (s : Reader). s.bad) (sym c.self.view_is) ∙ none_from c.self.inside.bad (λ why e. c.in_default.not-Some why e) in
+    let bad : r.bad ≡ None = ap (λ (s : Reader). s.bad) (sym c.self.view_is)
+    ∙ none_from c.self.inside.bad (λ why e. c.in_default.not-Some why e) in
     feed_is r c.take.new.self c.args.piece.now c.in-Ok.fed
     (c.in-Ok.ensures.fed ∙ ap (λ (o : Option Why). fed_of o r c.args.piece.now) (sym bad))
     (c.in-Ok.ensures.reader ∙ ap (λ (o : Option Why). after_feed o r c.args.piece.now) (sym bad))

@@ -17,7 +17,8 @@ index_mut-requires c =
     let es = c.pop.new.self.items in
     let e = c.unwrap-last.result in
     let split : t.entries.items ≡ es ++ e ∷ [] = c.pop.ensures.items ∙ ap (λ o. es ++ option_to_list o) c.unwrap-last.ensures in
-    let kept : AreKept t.vars (es ++ e ∷ []) t.signs.items = subst (λ (l : List Entry). AreKept t.vars l t.signs.items) split c.undo.invariant.lists in
+    let kept : AreKept t.vars (es ++ e ∷ []) t.signs.items =
+    subst (λ (l : List Entry). AreKept t.vars l t.signs.items) split c.undo.invariant.lists in
     let within : var_of e.lit ≤ t.vars = (IsTrail-last t.vars es e kept.ordered).in_range in
     omega (arith, within, c.var.ensures.value, kept.sized, t.signs.ok)
 
@@ -30,7 +31,8 @@ undo-preserved c =
     let split : t.entries.items ≡ es ++ e ∷ [] = c.pop.ensures.items ∙ ap (λ o. es ++ option_to_list o) c.unwrap-last.ensures in
     let kept : AreKept t.vars (es ++ e ∷ []) t.signs.items = subst (λ (l : List Entry). AreKept t.vars l t.signs.items) split k.lists in
     let follows = IsTrail-last t.vars es e kept.ordered in
-    let ends : nat_lt c.args.level e.level ≡ true = sym (ends-push c.args.level es e) ∙ ap (ends_above_test c.args.level) (sym split ∙ sym c.deref.ensures.value) ∙ sym c.ends_above.ensures ∙ c.undo-test.true in
+    let ends : nat_lt c.args.level e.level ≡ true = sym (ends-push c.args.level es e)
+    ∙ ap (ends_above_test c.args.level) (sym split ∙ sym c.deref.ensures.value) ∙ sym c.ends_above.ensures ∙ c.undo-test.true in
     let above : c.args.level < e.level = grind (arith, nat_tests) in
     let fails : nat_le e.level c.args.level ≡ false = grind (arith, nat_tests) in
     record {
@@ -39,15 +41,18 @@ undo-preserved c =
       room = omega (arith, k.room, c.pop.ensures.capacity);
       lists = rw c.var.ensures.value (AreKept-pop t.vars es t.signs.items e kept);
       above = level-pop t.vars es e c.args.level follows above;
-      kept = sym (filter-pop (λ x. nat_le x.level c.args.level) es e fails) ∙ ap (filter (λ x. nat_le x.level c.args.level)) (sym split) ∙ k.kept;
-      front = take-pop es c.self.inside.entries.items e (subst (λ (l : List Entry). l ≡ take (length l) c.self.inside.entries.items) split k.front);
+      kept = sym (filter-pop (λ x. nat_le x.level c.args.level) es e fails) ∙ ap (filter (λ x. nat_le x.level c.args.level)) (sym split)
+          ∙ k.kept;
+      front = take-pop es c.self.inside.entries.items e
+          (subst (λ (l : List Entry). l ≡ take (length l) c.self.inside.entries.items) split k.front);
     }
 
 pub invariant_of-self : goal.invariant_of-self
 invariant_of-self c =
     let t = c.undo.self-inside in
     let k = c.undo.invariant in
-    let ends : ends_above_test c.args.level t.entries.items ≡ false = ap (ends_above_test c.args.level) (sym c.deref.ensures.value) ∙ sym c.ends_above.ensures ∙ c.undo-test.false in
+    let ends : ends_above_test c.args.level t.entries.items ≡ false = ap (ends_above_test c.args.level) (sym c.deref.ensures.value)
+    ∙ sym c.ends_above.ensures ∙ c.undo-test.false in
     let low = level-last t.vars t.entries.items c.args.level k.lists.ordered ends in
     record { few = k.few; room = k.room; level = omega (arith, low, k.above); lists = k.lists }
 
@@ -55,14 +60,17 @@ pub returns-clause-kept : goal.returns-clause-kept
 returns-clause-kept c =
     let t = c.undo.self-inside in
     let k = c.undo.invariant in
-    let ends : ends_above_test c.args.level t.entries.items ≡ false = ap (ends_above_test c.args.level) (sym c.deref.ensures.value) ∙ sym c.ends_above.ensures ∙ c.undo-test.false in
+    let ends : ends_above_test c.args.level t.entries.items ≡ false = ap (ends_above_test c.args.level) (sym c.deref.ensures.value)
+    ∙ sym c.ends_above.ensures ∙ c.undo-test.false in
     let low = level-last t.vars t.entries.items c.args.level k.lists.ordered ends in
-    sym (filter-low t.vars t.entries.items c.args.level k.lists.ordered low) ∙ k.kept ∙ ap (λ a. filter (λ e. nat_le e.level c.args.level) a.entries) c.self.view_is
+    sym (filter-low t.vars t.entries.items c.args.level k.lists.ordered low) ∙ k.kept
+    ∙ ap (λ a. filter (λ e. nat_le e.level c.args.level) a.entries) c.self.view_is
 
 pub returns-clause-level : goal.returns-clause-level
 returns-clause-level c =
     let t = c.undo.self-inside in
     let k = c.undo.invariant in
-    let ends : ends_above_test c.args.level t.entries.items ≡ false = ap (ends_above_test c.args.level) (sym c.deref.ensures.value) ∙ sym c.ends_above.ensures ∙ c.undo-test.false in
+    let ends : ends_above_test c.args.level t.entries.items ≡ false = ap (ends_above_test c.args.level) (sym c.deref.ensures.value)
+    ∙ sym c.ends_above.ensures ∙ c.undo-test.false in
     let low = level-last t.vars t.entries.items c.args.level k.lists.ordered ends in
     omega (arith, low, k.above)

@@ -13,25 +13,30 @@ pub overflow_add-level : goal.overflow_add-level
 overflow_add-level c =
     let i = c.self.inside in
     let k = c.self.invariant in
-    let none : value_of c.args.lit i.entries.items ≡ None = ap (λ a. value_of c.args.lit a.entries) c.self.view_is ∙ c.requires.unassigned in
+    let none : value_of c.args.lit i.entries.items ≡ None = ap (λ a. value_of c.args.lit a.entries) c.self.view_is
+    ∙ c.requires.unassigned in
     let le : var_of c.args.lit ≤ i.vars = omega (arith, c.requires.in_range, ap (λ a. a.vars) c.self.view_is) in
-    let room = length-kept i.vars i.entries.items i.signs.items (var_of c.args.lit) k.lists le (sign-unassigned c.args.lit i.entries.items none) in
+    let room = length-kept i.vars i.entries.items i.signs.items (var_of c.args.lit) k.lists le
+    (sign-unassigned c.args.lit i.entries.items none) in
     omega (arith, level-le i.entries.items, room, k.few, k.level)
 
 pub push_reserved-requires : goal.push_reserved-requires
 push_reserved-requires c =
     let i = c.self.inside in
     let k = c.self.invariant in
-    let none : value_of c.args.lit i.entries.items ≡ None = ap (λ a. value_of c.args.lit a.entries) c.self.view_is ∙ c.requires.unassigned in
+    let none : value_of c.args.lit i.entries.items ≡ None = ap (λ a. value_of c.args.lit a.entries) c.self.view_is
+    ∙ c.requires.unassigned in
     let le : var_of c.args.lit ≤ i.vars = omega (arith, c.requires.in_range, ap (λ a. a.vars) c.self.view_is) in
-    let room = length-kept i.vars i.entries.items i.signs.items (var_of c.args.lit) k.lists le (sign-unassigned c.args.lit i.entries.items none) in
+    let room = length-kept i.vars i.entries.items i.signs.items (var_of c.args.lit) k.lists le
+    (sign-unassigned c.args.lit i.entries.items none) in
     omega (arith, room, k.room, i.entries.ok)
 
 pub invariant_of-self : goal.invariant_of-self
 invariant_of-self c =
     let i = c.self.inside in
     let k = c.self.invariant in
-    let none : value_of c.args.lit i.entries.items ≡ None = ap (λ a. value_of c.args.lit a.entries) c.self.view_is ∙ c.requires.unassigned in
+    let none : value_of c.args.lit i.entries.items ≡ None = ap (λ a. value_of c.args.lit a.entries) c.self.view_is
+    ∙ c.requires.unassigned in
     let le : var_of c.args.lit ≤ i.vars = omega (arith, c.requires.in_range, ap (λ a. a.vars) c.self.view_is) in
     let e : Entry = record { lit = c.args.lit; level = i.level + 1; reason = 0 } in
     let above : 0 < var_of c.args.lit = omega (arith, c.var.ensures.above, c.var.ensures.value) in
@@ -40,5 +45,6 @@ invariant_of-self c =
       few = k.few;
       room = omega (arith, k.room, c.push_reserved.ensures.capacity);
       level = rw c.push_reserved.ensures.items (ap (λ n. n + 1) k.level ∙ sym (sum_by_push step_of i.entries.items e));
-      lists = rw (c.push_reserved.ensures.items, c.var.ensures.value, c.is_positive.ensures) (AreKept-push i.vars i.entries.items i.signs.items e k.lists follows);
+      lists = rw (c.push_reserved.ensures.items, c.var.ensures.value, c.is_positive.ensures)
+          (AreKept-push i.vars i.entries.items i.signs.items e k.lists follows);
     }

@@ -6,4 +6,5 @@ use Rattle.trail.proofs.trail.Trail.level.Goals as goal
 pub returns-clause-levelled : goal.returns-clause-levelled
 returns-clause-levelled c =
     let i = c.self.inside in
-    subst (λ (a : Assignment). IsLevelled a.entries) c.self.view_is (IsTrail-levelled i.vars i.entries.items c.self.invariant.lists.ordered)
+    subst (λ (a : Assignment). IsLevelled a.entries) c.self.view_is
+    (IsTrail-levelled i.vars i.entries.items c.self.invariant.lists.ordered)
