@@ -20,6 +20,7 @@ use Rattle.placer.proofs.MarkedRun.{part_of, hint_of, marked_of, run_marked}
 abbrev pub flagged : (ℕ → Bool) → Entry → Bool
 flagged k e = k (var_of e.lit)
 
+-- another variable has its sign elsewhere
 sign_part : (k : Bool) (v : ℕ) (z : ℤ) (xs : List ℤ) → (var_of z ≡ v → ⊥) → sign_in v ((if k then z ∷ [] else []) ++ xs) ≡ sign_in v xs
 sign_part true v z xs ne = ap (λ b. if b then Some (is_positive z) else sign_in v xs) (ne_eqb (var_of z) v ne)
 sign_part false v z xs ne = refl
@@ -84,6 +85,7 @@ module _ (vars : ℕ) (cs : List (List ℤ)) (es : List Entry) (n : ℕ) (k u : 
     → IsNumbered cs e.reason c → IsClosed k u c e.lit)
     (c : IsConflict (lits_of es) cs n)
     (all_flagged : All (λ y. (k (var_of y) || u (var_of y)) ≡ true) c.clause) where
+  -- a flagged literal that is false is so under the marked entries
   false_flagged : (before : List Entry) (y : ℤ) → (k (var_of y) || u (var_of y)) ≡ true → value_of y before ≡ Some false
       → value_in y (flat_map (marked_of (flagged k) (flagged u)) before) ≡ Some false
   false_flagged before y f v = ap (option_map (λ s. if is_positive y then s else not s)) (sign_flagged k u (var_of y) before f) ∙ v
@@ -98,6 +100,7 @@ module _ (vars : ℕ) (cs : List (List ℤ)) (es : List Entry) (n : ℕ) (k u : 
       (λ (g : (k (var_of (get_or part i d)) || u (var_of (get_or part i d))) ≡ true). false_flagged before (get_or part i d) g (f i d lt))
       (h i d lt)
 
+  -- the reason of a used entry forces its literal
   closed_marks : (before : List Entry) (e : Entry) (rest : List Entry) → before ++ e ∷ rest ≡ es → flagged u e ≡ true
       → Forces (flat_map (marked_of (flagged k) (flagged u)) before) cs e.reason e.lit
   closed_marks before e rest whole used =
@@ -122,6 +125,7 @@ module _ (vars : ℕ) (cs : List (List ℤ)) (es : List Entry) (n : ℕ) (k u : 
         };
       }
 
+  -- the conflict is false under the marked entries
   conflict_marks : IsConflict (flat_map (marked_of (flagged k) (flagged u)) es) cs n
   conflict_marks = record {
     clause = c.clause;

@@ -21,6 +21,7 @@ kept_is vars es places marks point i e t p there =
     (get_or_from_slice_get places (var_of e.lit) i 0 (p.told i e there))
     ∙ ap (λ l. get_or marks i false && not (is_resolved point i l)) (level_there es i e (λ k d at. (t k d at).fresh) there)
 
+-- whether an entry's reason is used, by its place and level
 pub used_is : (vars : ℕ) (es : List Entry) (places : List ℕ) (marks : List Bool) (point i : ℕ) (e : Entry) → IsTrail vars es
     → ArePlaces vars es places → slice_get es i ≡ Some e
     → is_used es places marks point (var_of e.lit) ≡ (get_or marks i false && is_resolved point i e.level)
@@ -47,6 +48,7 @@ resolved_cases point i level h = by (nat_lt point i) refl h
     by true t h = inl (ltb-true point i t)
     by false t h = inr (eqb-true level 0 h)
 
+-- an entry that is not resolved
 resolved_not : (point i level : ℕ) → is_resolved point i level ≡ false → (i ≤ point) × (0 < level)
 resolved_not point i level h = by (nat_lt point i) refl h
   where
@@ -60,6 +62,7 @@ resolved_not point i level h = by (nat_lt point i) refl h
       let ne : level ≢ 0 = eqb-false level 0 h in omega arith,
     )
 
+-- an entry up to the point above level 0 is not resolved
 unresolved : (point i level : ℕ) → i ≤ point → 0 < level → is_resolved point i level ≡ false
 unresolved point i level le above = by (is_resolved point i level) refl
   where
@@ -79,12 +82,14 @@ pub record IsUsedEntry (marks : List Bool) (point i : ℕ) (e : Entry) : Type 0 
   pub marked : slice_get marks i ≡ Some true
   pub resolved : (point < i) ⊎ (e.level ≡ 0)
 
+-- a mark that is read is there
 on_there : (marks : List Bool) (i : ℕ) → get_or marks i false ≡ true → slice_get marks i ≡ Some true
 on_there marks i h = ⊎_elim
     (λ (lt : i < length marks). slice_get-get_or marks i false lt ∙ ap Some h)
     (λ (past : length marks ≤ i). absurd (true≢false (sym h ∙ get_or_past marks i false past)))
     (cases_lt i (length marks))
 
+-- an entry with the flag is kept
 pub kept_entry : (vars : ℕ) (es : List Entry) (places : List ℕ) (marks : List Bool) (point i : ℕ) (e : Entry) → IsTrail vars es
     → ArePlaces vars es places → slice_get es i ≡ Some e → is_kept es places marks point (var_of e.lit) ≡ true
     → IsKeptEntry marks point i e
@@ -97,6 +102,7 @@ kept_entry vars es places marks point i e t p there h =
     by true true on r h = cc
     by false r on s h = cc
 
+-- an entry with the flag is used
 pub used_entry : (vars : ℕ) (es : List Entry) (places : List ℕ) (marks : List Bool) (point i : ℕ) (e : Entry) → IsTrail vars es
     → ArePlaces vars es places → slice_get es i ≡ Some e → is_used es places marks point (var_of e.lit) ≡ true
     → IsUsedEntry marks point i e
@@ -108,6 +114,7 @@ used_entry vars es places marks point i e t p there h =
     by true false on r h = cc
     by false r on s h = cc
 
+-- a kept entry has the flag
 pub entry_kept : (vars : ℕ) (es : List Entry) (places : List ℕ) (marks : List Bool) (point i : ℕ) (e : Entry) → IsTrail vars es
     → ArePlaces vars es places → slice_get es i ≡ Some e → IsKeptEntry marks point i e
     → is_kept es places marks point (var_of e.lit) ≡ true

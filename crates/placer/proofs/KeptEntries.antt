@@ -71,6 +71,7 @@ there_kept k (e ∷ es) z h = ⊎_elim
     more : IsFromKept k es z → IsFromKept k (e ∷ es) z
     more r = record { place = suc r.place; entry = r.entry; there = r.there; passes = r.passes; is = r.is }
 
+-- a variable with no sign has none among the kept
 none_kept : (k : ℕ → Bool) (v : ℕ) (es : List Entry) → sign_of v es ≡ None → sign_in v (flat_map (negation_if k) es) ≡ None
 none_kept k v [] h = refl
 none_kept k v (e ∷ es) h = by (k (var_of e.lit)) (none_kept k v es (step-none v e.lit (lits_of es) h).1)

@@ -31,12 +31,15 @@ none_of k (e ∷ es) h = ap (λ b. (if b then neg_ℤ e.lit ∷ [] else []) ++ f
 module _ (vars : ℕ) (cs : List (List ℤ)) (es : List Entry) (places : List ℕ) (t : IsTrail vars es) (f : AreForced cs es)
     (p : ArePlaces vars es places) (n : ℕ) (conflict : IsConflict (lits_of es) cs n) (blank first marks : List Bool)
     (m : Marks places conflict.clause blank first) (z : Closes cs es places 0 first marks) (low : level_of es ≡ 0) where
+  -- whether a variable's literal is kept
   abbrev kept : ℕ → Bool
   kept = is_kept es places marks 0
 
+  -- whether a variable's reason is used
   abbrev used : ℕ → Bool
   used = is_used es places marks 0
 
+  -- levels never fall
   levelled : IsLevelled es
   levelled = IsTrail-levelled vars es t
 

@@ -11,12 +11,15 @@ use Rattle.clause_base.specs.declared.entry.Entry.{Entry}
 use Rattle.placer.proofs.ChangedPlaces.{get_set_same, get_set_other, get_set_cases}
 use Rattle.placer.specs.Marking.{IsWithin, HasPlace, HasPlaceAt, HasOther, Marks, Lowers, IsBack}
 
+-- a place of a literal stays with one literal more
 has_left : (places : List ℕ) (xs : List ℤ) (z : ℤ) (k : ℕ) → HasPlace places xs k → HasPlace places (xs ++ z ∷ []) k
 has_left places xs z k h = record { lit = h.lit; held = Contains-append_left xs (z ∷ []) h.lit h.held; there = h.there }
 
+-- the place of the last literal
 has_last : (places : List ℕ) (xs : List ℤ) (z : ℤ) (k : ℕ) → slice_get places (var_of z) ≡ Some k → HasPlace places (xs ++ z ∷ []) k
 has_last places xs z k there = record { lit = z; held = Contains-push xs z; there = there }
 
+-- a place is that of the last literal or of one before
 has_push : (places : List ℕ) (xs : List ℤ) (z : ℤ) (k : ℕ) → HasPlace places (xs ++ z ∷ []) k
     → HasPlace places xs k ⊎ (slice_get places (var_of z) ≡ Some k)
 has_push places xs z k h = ⊎_elim
@@ -24,6 +27,7 @@ has_push places xs z k h = ⊎_elim
     (λ (same : z ≡ h.lit). inr (ap (λ y. slice_get places (var_of y)) same ∙ h.there))
     (Contains-push_cases xs z h.lit h.held)
 
+-- no literal has no place
 has_none : (places : List ℕ) (k : ℕ) → HasPlace places [] k → ⊥
 has_none places k h = let lt : h.held.0 < length {A = ℤ} [] = h.held.1 in absurd (omega arith)
 
@@ -31,9 +35,11 @@ has_none places k h = let lt : h.held.0 < length {A = ℤ} [] = h.held.1 in absu
 pub Marks_none : (places : List ℕ) (marks : List Bool) → Marks places [] marks marks
 Marks_none places marks = record { sized = refl; kept = λ i h. h; held = λ i h. absurd (has_none places i h); only = λ i h. inl h }
 
+-- no literal lowers nothing
 pub Lowers_none : (es : List Entry) (places : List ℕ) (level lowest : ℕ) → Lowers es places level [] lowest lowest
 Lowers_none es places level lowest = record { lower = omega arith; least = λ i h. absurd (has_none places i h.held); own = inl refl }
 
+-- no literal has no level
 pub IsBack_none : (es : List Entry) (places : List ℕ) (point : ℕ) → IsBack es places point [] 0
 IsBack_none es places point = record { most = λ l h. absurd (has_none places h.place h.held.held); met = inl refl }
 

@@ -25,6 +25,7 @@ hint_of p e = if p e then e.reason ∷ [] else []
 abbrev pub marked_of : (Entry → Bool) → (Entry → Bool) → Entry → List ℤ
 marked_of keep used e = part_of keep e ++ part_of used e
 
+-- a literal of the entries that pass is one of all
 in_part : (p : Entry → Bool) (z : ℤ) (es : List Entry) → In z (flat_map (part_of p) es) → In z (lits_of es)
 in_part p z [] i = i
 in_part p z (e ∷ es) i = by (p e) i (in_part p z es)
@@ -34,6 +35,7 @@ in_part p z (e ∷ es) i = by (p e) i (in_part p z es)
     by true i h = ⊎_elim (λ (s : e.lit ≡ z). inl s) (λ (j : In z (flat_map (part_of p) es)). inr (h j)) i
     by false i h = inr (h i)
 
+-- a literal of the marked entries is one of all
 in_marked : (k u : Entry → Bool) (z : ℤ) (es : List Entry) → In z (flat_map (marked_of k u) es)
     → In z (flat_map (part_of k) es) ⊎ In z (flat_map (part_of u) es)
 in_marked k u z [] i = absurd i
@@ -54,23 +56,28 @@ module _ (vars : ℕ) (cs : List (List ℤ)) (es : List Entry) (n : ℕ) (keep u
     (closed : (before : List Entry) (e : Entry) (rest : List Entry) → before ++ e ∷ rest ≡ es → used e ≡ true
     → Forces (flat_map (marked_of keep used) before) cs e.reason e.lit)
     (c : IsConflict (flat_map (marked_of keep used) es) cs n) where
+  -- what holds after the entries before a place
   abbrev held_at : List Entry → List ℤ
   held_at before = flat_map (part_of keep) es ++ flat_map (part_of used) before
 
+  -- no variable comes twice
   apart : AreApart (lits_of es)
   apart = trail-apart vars es t
 
+  -- a literal of the first entries is one of all
   in_whole : (before rest : List Entry) → before ++ rest ≡ es → (z : ℤ) → In z (lits_of before) → In z (lits_of es)
   in_whole before rest whole z i =
       subst (λ (xs : List Entry). In z (lits_of xs)) whole
       (subst (λ (l : List ℤ). In z l) (sym (lits-append before rest)) (in-left z (lits_of before) (lits_of rest) i))
 
+  -- what holds is of the entries
   sub : (before rest : List Entry) → before ++ rest ≡ es → (z : ℤ) → In z (held_at before) → In z (lits_of es)
   sub before rest whole z i =
       ⊎_elim (λ (d : In z (flat_map (part_of keep) es)). in_part keep z es d)
       (λ (p : In z (flat_map (part_of used) before)). in_whole before rest whole z (in_part used z before p))
       (in-cases z (flat_map (part_of keep) es) (flat_map (part_of used) before) i)
 
+  -- what is marked among the first entries holds
   pre : (before rest : List Entry) → before ++ rest ≡ es → (z : ℤ) → In z (flat_map (marked_of keep used) before) → In z (held_at before)
   pre before rest whole z i = ⊎_elim
       (λ (d : In z (flat_map (part_of keep) before)).
@@ -81,6 +88,7 @@ module _ (vars : ℕ) (cs : List (List ℤ)) (es : List Entry) (n : ℕ) (keep u
       (λ (p : In z (flat_map (part_of used) before)). in-right z (flat_map (part_of keep) es) (flat_map (part_of used) before) p)
       (in_marked keep used z before i)
 
+  -- the literal of a used entry does not hold before it
   free : (before : List Entry) (e : Entry) (rest : List Entry) → before ++ e ∷ rest ≡ es → used e ≡ true
       → sign_in (var_of e.lit) (held_at before) ≡ None
   free before e rest whole implied = none-from (var_of e.lit) (held_at before) (λ z i same. ⊎_elim
@@ -109,6 +117,7 @@ module _ (vars : ℕ) (cs : List (List ℤ)) (es : List Entry) (n : ℕ) (keep u
       back : (z : ℤ) → In z (lits_of rest) → var_of z ≡ var_of e.lit → ⊥
       back z i same = none-there (var_of e.lit) z (lits_of rest) tail.0 i same
 
+  -- the reason of a used entry forces its literal
   forces : (before : List Entry) (e : Entry) (rest : List Entry) → before ++ e ∷ rest ≡ es → used e ≡ true
       → Forces (held_at before) cs e.reason e.lit
   forces before e rest whole implied =
@@ -128,6 +137,7 @@ module _ (vars : ℕ) (cs : List (List ℤ)) (es : List Entry) (n : ℕ) (keep u
         };
       }
 
+  -- the run from a place on
   run_from : (before rest : List Entry) → before ++ rest ≡ es → IsUnitRun cs (held_at before) (flat_map (hint_of used) rest ++ n ∷ [])
   run_from before [] whole =
       let all : before ≡ es = sym (append-nil before) ∙ whole in

@@ -32,15 +32,19 @@ use Rattle.placer.proofs.KeptEntries.{all_kept, kept_there, IsFromKept, there_ke
 module _ (vars : ℕ) (cs : List (List ℤ)) (es : List Entry) (places : List ℕ) (t : IsTrail vars es) (f : AreForced cs es)
     (p : ArePlaces vars es places) (n q : ℕ) (first marks : List Bool) (conflict : IsConflict (lits_of es) cs n)
     (k : IsAtPlace cs es n q first q) (z : Closes cs es places 0 first marks) (above : 0 < level_of es) where
+  -- whether a variable's literal is kept
   abbrev kept : ℕ → Bool
   kept = is_kept es places marks q
 
+  -- whether a variable's reason is used
   abbrev used : ℕ → Bool
   used = is_used es places marks q
 
+  -- levels never fall
   levelled : IsLevelled es
   levelled = IsTrail-levelled vars es t
 
+  -- variables count from 1
   over : (i : ℕ) (e : Entry) → slice_get es i ≡ Some e → 0 < var_of e.lit
   over i e there = (t i e there).above
 
@@ -123,6 +127,7 @@ module _ (vars : ℕ) (cs : List (List ℤ)) (es : List Entry) (places : List �
   pub false_kept : IsFalse (lits_of es) (flat_map (negation_if kept) es)
   false_kept = all_kept kept (λ y. value_of y es ≡ Some false) es (λ i e there h. false_there vars es i e t there)
 
+  -- the point is kept
   point_kept : kept (var_of k.lowest_is.entry.lit) ≡ true
   point_kept =
       let low : IsLowest es first q = k.lowest_is in

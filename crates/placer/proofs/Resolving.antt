@@ -49,6 +49,7 @@ past_unmarked cs es n place marks lowest lt unmarked k =
 
 module _ (vars : ℕ) (cs : List (List ℤ)) (es : List Entry) (places : List ℕ) (t : IsTrail vars es) (f : AreForced cs es)
     (p : ArePlaces vars es places) where
+  -- variables count from 1
   above : (i : ℕ) (e : Entry) → slice_get es i ≡ Some e → 0 < var_of e.lit
   above i e there = (t i e there).above
 

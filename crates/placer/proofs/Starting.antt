@@ -22,6 +22,7 @@ none_blank (suc n) zero h = cc
 none_blank (suc n) (suc i) h = none_blank n i h
 
 module _ (vars : ℕ) (cs : List (List ℤ)) (es : List Entry) (places : List ℕ) (t : IsTrail vars es) (p : ArePlaces vars es places) where
+  -- the place of the negation of an entry's literal
   place_neg : (i : ℕ) (e : Entry) → slice_get es i ≡ Some e → slice_get places (var_of (neg_ℤ e.lit)) ≡ Some i
   place_neg i e there = ap (slice_get places) (var-neg e.lit) ∙ p.told i e there
 

@@ -73,7 +73,11 @@ pub fn is_clause(list: &ClauseList, number: u32, values: &[i32]) -> bool {
     if number == 0 || number > list.len() {
         return false;
     }
-    let lits = list.get(number);
+    are_literals(list.get(number), values)
+}
+
+/// Whether literals have these numbers, in this order.
+pub fn are_literals(lits: &[Lit], values: &[i32]) -> bool {
     lits.len() == values.len()
         && lits
             .iter()
