@@ -1,4 +1,7 @@
 //! The whole program as one call, over any shelf and any sink.
+//!
+//! The contract of `top` is its clauses `ends`, `keeps`, `goes_on` and `sink_goes_on`. All others follow from `ends` and
+//! `keeps` by the law `answers_keep_the_promises`, and are there so that a reader need not unfold these.
 ghost use Rattle.std.specs.Prelude.{◌≡◌, map, string_bytes};
 ghost use Rattle.io_base.specs.Shelf.{GoesOn};
 ghost use Rattle.io_base.specs.Sink.{SinkGoesOn};
