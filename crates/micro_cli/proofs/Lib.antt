@@ -2,7 +2,6 @@ pub mod FlowSteps
 pub mod NumberSteps
 pub mod CommandWords
 pub mod ToldFiles
-pub mod FewClauses
 pub mod LinesText
 pub mod AcceptedLemmas
 pub mod AcceptedInputs
