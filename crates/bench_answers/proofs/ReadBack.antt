@@ -62,23 +62,28 @@ one_value r a b one two = ap (value_or a) (sym one ∙ two)
 -- ---- one file
 
 -- a file that stands and is short enough is not read only where a read of it fails
-pub file_unread : (name : List ℕ) (limit : ℕ) (old new : ShelfState) (s : Status) (text bytes : List ℕ) → IsTrue old.tells → old.file name ≡ Some bytes → length bytes ≤ limit
+pub file_unread : (name : List ℕ) (limit : ℕ) (old new : ShelfState) (s : Status) (text bytes : List ℕ) → IsTrue old.tells
+    → old.file name ≡ Some bytes → length bytes ≤ limit
     → FileReply name limit old new s text → CannotRead name old new s text
 file_unread name limit old new s text bytes tells stands short reply = go reply.reason
   where
-    go : NoFile name limit old new s text ⊎ TooLong name limit old new s text ⊎ CannotRead name old new s text → CannotRead name old new s text
+    go : NoFile name limit old new s text ⊎ TooLong name limit old new s text ⊎ CannotRead name old new s text
+        → CannotRead name old new s text
     go (inl none) = absurd (subst (λ (file : Option (List ℕ)). ExplainsFault file limit fault.NoFile) stands (none.told tells))
     go (inr (inl long)) =
-        let more : limit < length bytes = subst (λ (file : Option (List ℕ)). ExplainsFault file limit fault.TooLong) stands (long.told tells) in
+        let more : limit < length bytes =
+        subst (λ (file : Option (List ℕ)). ExplainsFault file limit fault.TooLong) stands (long.told tells) in
         absurd (omega (arith, more, short))
     go (inr (inr unread)) = unread
 
 -- what is read of a file that stands is its bytes
-pub file_read : (name : List ℕ) (limit : ℕ) (old new : ShelfState) (read bytes : List ℕ) → IsTrue old.tells → old.file name ≡ Some bytes → HasFile name limit old new read → read ≡ bytes
+pub file_read : (name : List ℕ) (limit : ℕ) (old new : ShelfState) (read bytes : List ℕ) → IsTrue old.tells → old.file name ≡ Some bytes
+    → HasFile name limit old new read → read ≡ bytes
 file_read name limit old new read bytes tells stands has = let same : Some read ≡ Some bytes = sym (has.told tells) ∙ stands in cc
 
 -- a failed read, told from an earlier state on
-unread_back : (name : List ℕ) (old mid new : ShelfState) (s : Status) (text : List ℕ) → GoesOn old mid → CannotRead name mid new s text → CannotReadBack old new s text
+unread_back : (name : List ℕ) (old mid new : ShelfState) (s : Status) (text : List ℕ) → GoesOn old mid → CannotRead name mid new s text
+    → CannotReadBack old new s text
 unread_back name old mid new s text goes_on unread = record {
   status_is = unread.reply.status_is;
   rose = omega (arith, goes_on.later, unread.rose);
@@ -91,9 +96,11 @@ unread_back name old mid new s text goes_on unread = record {
 record Stands (out : List ℕ) (decl : Declaration) (images : List Image) (shelf : ShelfState) : Type 0 where
   tells : IsTrue shelf.tells
   layout : shelf.file (layout_name out) ≡ Some (layout_text decl)
-  each : (number : ℕ) (image : Image) → slice_get images number ≡ Some image → shelf.file (image_name out number) ≡ Some (image_text image)
+  each : (number : ℕ) (image : Image) → slice_get images number ≡ Some image
+      → shelf.file (image_name out number) ≡ Some (image_text image)
 
-still : (out : List ℕ) (decl : Declaration) (images : List Image) (old new : ShelfState) → new.file ≡ old.file → GoesOn old new → Stands out decl images old → Stands out decl images new
+still : (out : List ℕ) (decl : Declaration) (images : List Image) (old new : ShelfState) → new.file ≡ old.file → GoesOn old new
+    → Stands out decl images old → Stands out decl images new
 still out decl images old new same goes_on stands = record {
   tells = goes_on.tells ∙ stands.tells;
   layout = ap (λ file. file (layout_name out)) same ∙ stands.layout;
@@ -102,34 +109,45 @@ still out decl images old new same goes_on stands = record {
 
 -- ---- the layout
 
-layout_unread : (out : List ℕ) (decl : Declaration) (images : List Image) (old new : ShelfState) (s : Status) (text : List ℕ) → Declares decl → Stands out decl images old
+layout_unread : (out : List ℕ) (decl : Declaration) (images : List Image) (old new : ShelfState) (s : Status) (text : List ℕ)
+    → Declares decl → Stands out decl images old
     → LayoutReply out old new s text → CannotRead (layout_name out) old new s text
 layout_unread out decl images old new s text declares stands (inl reply) =
-    file_unread (layout_name out) layout_limit old new s text (layout_text decl) stands.tells stands.layout (layout_short decl declares) reply
+    file_unread (layout_name out) layout_limit old new s text (layout_text decl) stands.tells stands.layout (layout_short decl declares)
+    reply
 layout_unread out decl images old new s text declares stands (inr refused) =
-    let same = file_read (layout_name out) layout_limit old new refused.bytes (layout_text decl) stands.tells stands.layout refused.file in
-    absurd (not_both (layout_of refused.bytes) decl (refused.line, refused.kind) (ap layout_of same ∙ read_again decl declares) refused.meant)
+    let same = file_read (layout_name out) layout_limit old new refused.bytes (layout_text decl)
+    stands.tells stands.layout refused.file in
+    absurd (not_both (layout_of refused.bytes) decl (refused.line, refused.kind) (ap layout_of same ∙ read_again decl declares)
+    refused.meant)
 
-layout_read : (out : List ℕ) (decl read : Declaration) (images : List Image) (old new : ShelfState) → Declares decl → Stands out decl images old → HasLayout out old new read → read ≡ decl
+layout_read : (out : List ℕ) (decl read : Declaration) (images : List Image) (old new : ShelfState) → Declares decl
+    → Stands out decl images old → HasLayout out old new read → read ≡ decl
 layout_read out decl read images old new declares stands has =
     let same = file_read (layout_name out) layout_limit old new has.bytes (layout_text decl) stands.tells stands.layout has.file in
     one_value (layout_of has.bytes) read decl has.meant (ap layout_of same ∙ read_again decl declares)
 
 -- ---- an image
 
-image_unread : (out : List ℕ) (decl : Declaration) (images : List Image) (number : ℕ) (image : Image) (old new : ShelfState) (s : Status) (text : List ℕ) → IsImage image → image.bits ≡ decl.prom_bits
-    → slice_get images number ≡ Some image → Stands out decl images old → ImageReply (image_name out number) decl.prom_bits old new s text → CannotRead (image_name out number) old new s text
+image_unread : (out : List ℕ) (decl : Declaration) (images : List Image) (number : ℕ) (image : Image) (old new : ShelfState) (s : Status)
+    (text : List ℕ) → IsImage image → image.bits ≡ decl.prom_bits
+    → slice_get images number ≡ Some image → Stands out decl images old → ImageReply (image_name out number) decl.prom_bits old new s text
+    → CannotRead (image_name out number) old new s text
 image_unread out decl images number image old new s text is bits at stands (inl reply) =
-    file_unread (image_name out number) image_limit old new s text (image_text image) stands.tells (stands.each number image at) (image_short image is) reply
+    file_unread (image_name out number) image_limit old new s text (image_text image) stands.tells (stands.each number image at)
+    (image_short image is) reply
 image_unread out decl images number image old new s text is bits at stands (inr refused) =
-    let same = file_read (image_name out number) image_limit old new refused.bytes (image_text image) stands.tells (stands.each number image at) refused.file in
+    let same = file_read (image_name out number) image_limit old new refused.bytes (image_text image) stands.tells
+    (stands.each number image at) refused.file in
     let shown = only_reading image.bits 512 (image_text image) (Ok image.words) (printed_is_read image is) in
     let fault = only_reading decl.prom_bits 512 refused.bytes (Err refused.fault) refused.meant in
     absurd (not_both (reading decl.prom_bits 512 refused.bytes) image.words refused.fault
-    (ap (λ (t : List ℕ). reading decl.prom_bits 512 t) same ∙ ap (λ (b : ℕ). reading b 512 (image_text image)) (sym bits) ∙ sym shown) (sym fault))
+    (ap (λ (t : List ℕ). reading decl.prom_bits 512 t) same ∙ ap (λ (b : ℕ). reading b 512 (image_text image)) (sym bits) ∙ sym shown)
+    (sym fault))
 
 -- words that such a text shows are the image's
-image_shown : (image read : Image) (bits : ℕ) (bytes : List ℕ) → IsImage image → image.bits ≡ bits → bytes ≡ image_text image → Reads bits 512 bytes (Ok read.words) → read.bits ≡ bits → read ≡ image
+image_shown : (image read : Image) (bits : ℕ) (bytes : List ℕ) → IsImage image → image.bits ≡ bits → bytes ≡ image_text image
+    → Reads bits 512 bytes (Ok read.words) → read.bits ≡ bits → read ≡ image
 image_shown image read bits bytes is width same shown read_bits =
     let printed = only_reading image.bits 512 (image_text image) (Ok image.words) (printed_is_read image is) in
     let reads = only_reading bits 512 bytes (Ok read.words) shown in
@@ -140,7 +158,8 @@ image_shown image read bits bytes is width same shown read_bits =
 
 -- ---- all images
 
-images_read : (out : List ℕ) (decl : Declaration) (words : List ℕ) (images read : List Image) (old new : ShelfState) → AreImages decl words images → Stands out decl images old
+images_read : (out : List ℕ) (decl : Declaration) (words : List ℕ) (images read : List Image) (old new : ShelfState)
+    → AreImages decl words images → Stands out decl images old
     → HasImages out decl.prom_bits (image_count decl) old new read → read ≡ images
 images_read out decl words images read old new are stands has = same_images read images (had.all ∙ sym are.fit.count) one
   where
@@ -155,7 +174,8 @@ images_read out decl words images read old new are stands has = same_images read
         let same : shown.bytes ≡ image_text y = cc in
         image_shown y x decl.prom_bits shown.bytes image.0 image.1 same shown.shown.words shown.shown.bits_are
 
-images_unread : (out : List ℕ) (decl : Declaration) (words : List ℕ) (images : List Image) (old new : ShelfState) (s : Status) (text : List ℕ) → AreImages decl words images → Stands out decl images old
+images_unread : (out : List ℕ) (decl : Declaration) (words : List ℕ) (images : List Image) (old new : ShelfState) (s : Status)
+    (text : List ℕ) → AreImages decl words images → Stands out decl images old
     → ImagesReply out decl.prom_bits (image_count decl) old new s text → CannotReadBack old new s text
 images_unread out decl words images old new s text are stands reply =
     let at = element_at images reply.number (subst (λ (n : ℕ). reply.number < n) (sym are.fit.count) reply.below) in
@@ -167,7 +187,8 @@ images_unread out decl words images old new s text are stands reply =
 
 -- ---- all words
 
-words_unread : (out : List ℕ) (decl : Declaration) (words : List ℕ) (images : List Image) (old new : ShelfState) (s : Status) (text : List ℕ) → Declares decl → AreImages decl words images → Stands out decl images old
+words_unread : (out : List ℕ) (decl : Declaration) (words : List ℕ) (images : List Image) (old new : ShelfState) (s : Status)
+    (text : List ℕ) → Declares decl → AreImages decl words images → Stands out decl images old
     → WordsReply out old new s text → CannotReadBack old new s text
 words_unread out decl words images old new s text declares are stands (inl reply) =
     unread_back (layout_name out) old old new s text (goes_on_same old)
@@ -184,7 +205,8 @@ pub record IsBack (decl read : Declaration) (words had : List ℕ) : Type 0 wher
   pub decl_is : read ≡ decl
   pub words_are : had ≡ words
 
-words_read : (out : List ℕ) (decl read : Declaration) (words had : List ℕ) (images : List Image) (old new : ShelfState) → Declares decl → FitWords decl words → AreImages decl words images → Stands out decl images old
+words_read : (out : List ℕ) (decl read : Declaration) (words had : List ℕ) (images : List Image) (old new : ShelfState) → Declares decl
+    → FitWords decl words → AreImages decl words images → Stands out decl images old
     → HasWords out old new read had → IsBack decl read words had
 words_read out decl read words had images old new declares fit are stands has =
     let is : read ≡ decl = layout_read out decl read images old has.mid declares stands has.layout in
@@ -198,7 +220,8 @@ words_read out decl read words had images old new declares fit are stands has =
 -- ---- the reply
 
 -- words without a bad shift are run, under a script that is read
-run_back : (out script bytes : List ℕ) (clocks : ℕ) (decl : Declaration) (words : List ℕ) (said : BusScript) (s : Status) (text : List ℕ) → HasNoBadShift words decl → script_of decl.slices bytes ≡ Ok said
+run_back : (out script bytes : List ℕ) (clocks : ℕ) (decl : Declaration) (words : List ℕ) (said : BusScript) (s : Status) (text : List ℕ)
+    → HasNoBadShift words decl → script_of decl.slices bytes ≡ Ok said
     → WordsBack out script bytes clocks decl words s text → IsPlacedRun decl words said clocks s text
 run_back out script bytes clocks decl words said s text unmasked meant (inl refused) =
     absurd (not_both (script_of decl.slices bytes) said (refused.line, refused.kind) meant refused.meant)
@@ -212,27 +235,35 @@ run_back out script bytes clocks decl words said s text unmasked meant (inr (oth
     go (inr run) = let P : BusScript → Type 0 = λ x. IsPlacedRun decl words x clocks s text in subst P same run
 
 -- the files of a placement stand where they were saved
-stand : (out : List ℕ) (g : Graph) (place : List Position) (files : List SavedFile) (old new : ShelfState) → IsTold old → (placed : PlacesFiles out g place files) → (all : AreSaved files old new)
+stand : (out : List ℕ) (g : Graph) (place : List Position) (files : List SavedFile) (old new : ShelfState) → IsTold old
+    → (placed : PlacesFiles out g place files) → (all : AreSaved files old new)
     → Stands out g.decl placed.images all.after
 stand out g place files old new told placed all = record {
   tells = all.goes_on.tells ∙ told.tells;
   layout = layout_stands old all.after out placed.map_bytes (layout_text g.decl) (map image_text placed.images) told saved;
-  each = λ number image at. image_stands old all.after out placed.map_bytes (layout_text g.decl) (map image_text placed.images) told saved number (image_text image) (text_at number image at);
+  each = λ number image at. image_stands old all.after out placed.map_bytes (layout_text g.decl) (map image_text placed.images)
+      told saved number (image_text image) (text_at number image at);
 }
   where
     saved : IsSaved old all.after (placed_files out placed.map_bytes (layout_text g.decl) (map image_text placed.images))
     saved = let P : List SavedFile → Type 0 = λ fs. IsSaved old all.after fs in subst P placed.files_are all.saved
 
-    text_at : (number : ℕ) (image : Image) → slice_get placed.images number ≡ Some image → slice_get (map image_text placed.images) number ≡ Some (image_text image)
+    text_at : (number : ℕ) (image : Image) → slice_get placed.images number ≡ Some image
+        → slice_get (map image_text placed.images) number ≡ Some (image_text image)
     text_at number image at = slice_get-map image_text placed.images number ∙ ap (option_map image_text) at
 
-pub saved_back : (out script bytes : List ℕ) (clocks : ℕ) (g : Graph) (place : List Position) (files : List SavedFile) (said : BusScript) (old new : ShelfState) (s : Status) (text : List ℕ) → IsTold old
-    → (placed : PlacesFiles out g place files) → HasNoBadShift placed.words g.decl → script_of g.decl.slices bytes ≡ Ok said → (all : AreSaved files old new) → BackReply out script bytes clocks all.after new s text
+pub saved_back : (out script bytes : List ℕ) (clocks : ℕ) (g : Graph) (place : List Position) (files : List SavedFile) (said : BusScript)
+    (old new : ShelfState) (s : Status) (text : List ℕ) → IsTold old
+    → (placed : PlacesFiles out g place files) → HasNoBadShift placed.words g.decl → script_of g.decl.slices bytes ≡ Ok said
+    → (all : AreSaved files old new) → BackReply out script bytes clocks all.after new s text
     → CannotReadBack all.after new s text ⊎ IsPlacedRun g.decl placed.words said clocks s text
 saved_back out script bytes clocks g place files said old new s text told placed unmasked meant all (inl reply) =
-    inl (words_unread out g.decl placed.words placed.images all.after new s text placed.program.declares placed.images_are (stand out g place files old new told placed all) reply)
+    inl (words_unread out g.decl placed.words placed.images all.after new s text placed.program.declares placed.images_are
+    (stand out g place files old new told placed all) reply)
 saved_back out script bytes clocks g place files said old new s text told placed unmasked meant all (inr (read, had, has, reply)) =
-    let back = words_read out g.decl read placed.words had placed.images all.after new placed.program.declares placed.words_fit placed.images_are (stand out g place files old new told placed all) has in
+    let back = words_read out g.decl read placed.words had placed.images all.after new placed.program.declares placed.words_fit
+    placed.images_are (stand out g place files old new told placed all) has in
     let P : Declaration → Type 0 = λ d. WordsBack out script bytes clocks d had s text in
     let Q : List ℕ → Type 0 = λ ws. WordsBack out script bytes clocks g.decl ws s text in
-    inr (run_back out script bytes clocks g.decl placed.words said s text unmasked meant (subst Q back.words_are (subst P back.decl_is reply)))
+    inr (run_back out script bytes clocks g.decl placed.words said s text unmasked meant
+    (subst Q back.words_are (subst P back.decl_is reply)))

@@ -99,7 +99,8 @@ field_length field name s =
       name,
     )
 
-fields_length : (fields : List Field) → All has_short_name fields → list_all is_sized fields ≡ true → length (fields_text fields) ≤ 61 * length fields
+fields_length : (fields : List Field) → All has_short_name fields → list_all is_sized fields ≡ true
+    → length (fields_text fields) ≤ 61 * length fields
 fields_length [] named sized = omega arith
 fields_length (field ∷ fields) named sized =
     let parts = and_parts (is_sized field) (list_all is_sized fields) sized in
@@ -107,15 +108,22 @@ fields_length (field ∷ fields) named sized =
     let rest = fields_length fields (λ k d less. named (suc k) d (omega (arith, less))) parts.1 in
     omega (arith, length-append (printed (field_runs field)) (fields_text fields), here, rest)
 
-named_at : (fields : List Field) (place : ℕ) (field : Field) → All has_short_name fields → slice_get fields place ≡ Some field → has_short_name field
+named_at : (fields : List Field) (place : ℕ) (field : Field) → All has_short_name fields → slice_get fields place ≡ Some field
+    → has_short_name field
 named_at [] place field all e = absurd cc
 named_at (f ∷ fields) zero field all e = let same : f ≡ field = cc in subst (has_short_name) same (all 0 f (omega arith))
 named_at (f ∷ fields) (suc place) field all e = named_at fields place field (λ k d less. all (suc k) d (omega (arith, less))) e
 
-write_length : (fields : List Field) (place : ℕ) (found : Option Field) → All has_short_name fields → slice_get fields place ≡ found → length (write_line found) ≤ 39
+write_length : (fields : List Field) (place : ℕ) (found : Option Field) → All has_short_name fields → slice_get fields place ≡ found
+    → length (write_line found) ≤ 39
 write_length fields place None named e = omega arith
 write_length fields place (Some field) named e =
-    omega (arith, line_length (name_run (codes "write")) (name_run field.name ∷ []), run_length (name_run field.name) [], named_at fields place field named e)
+    omega (
+      arith,
+      line_length (name_run (codes "write")) (name_run field.name ∷ []),
+      run_length (name_run field.name) [],
+      named_at fields place field named e,
+    )
 
 write_short : (write : Option ℕ) (fields : List Field) → All has_short_name fields → length (write_text write fields) ≤ 39
 write_short None fields named = omega arith

@@ -32,7 +32,8 @@ pub record AreSaved (files : List SavedFile) (old new : ShelfState) : Type 0 whe
   pub same : new.file ≡ after.file
 
 -- all files were saved, and then read back
-pub record SavesAndReplies (out script bytes : List ℕ) (clocks : ℕ) (files : List SavedFile) (old new : ShelfState) (s : Status) (text : List ℕ) : Type 0 where
+pub record SavesAndReplies (out script bytes : List ℕ) (clocks : ℕ) (files : List SavedFile) (old new : ShelfState) (s : Status)
+    (text : List ℕ) : Type 0 where
   pub all : AreSaved files old new
   pub back : BackReply out script bytes clocks all.after new s text
 
@@ -55,7 +56,8 @@ FilesAnswer out script bytes clocks files old new s text =
     ⊎ WantsSaved out bytes files old new s text
 
 -- the files of the placement were made, and became this
-pub record IsPlaced (out script bytes : List ℕ) (clocks : ℕ) (g : Graph) (place : List Position) (old new : ShelfState) (s : Status) (text : List ℕ) : Type 0 where
+pub record IsPlaced (out script bytes : List ℕ) (clocks : ℕ) (g : Graph) (place : List Position) (old new : ShelfState) (s : Status)
+    (text : List ℕ) : Type 0 where
   pub files : List SavedFile
   pub placed : PlacesFiles out g place files
   pub answer : FilesAnswer out script bytes clocks files old new s text

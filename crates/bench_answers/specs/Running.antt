@@ -56,4 +56,5 @@ BenchInputsReply out script old new s text = WordsReply out old new s text ⊎ L
 abbrev pub RunReply : List ℕ → List ℕ → ℕ → ShelfState → ShelfState → Status → List ℕ → Type 0
 RunReply out script clocks old new s text =
     BenchInputsReply out script old new s text
-    ⊎ ((decl : Declaration) × (words : List ℕ) × (said : BusScript) × HasBench out script old new decl words said × BenchReply out decl words said clocks s text)
+    ⊎ ((decl : Declaration) × (words : List ℕ) × (said : BusScript) × HasBench out script old new decl words said
+    × BenchReply out decl words said clocks s text)

@@ -26,7 +26,8 @@ cells_valid vars i room =
     let rows_in = are_one vars (any_of 32 (row_var i 0)) (any_of-valid vars 32 (row_var i 0) (omega arith) (omega arith)) in
     let cols_in = are_one vars (any_of 16 (col_var i 0)) (any_of-valid vars 16 (col_var i 0) (omega arith) (omega arith)) in
     are_both vars (rows ++ cols ++ no_two 32 (row_var i 0)) (no_two 16 (col_var i 0))
-    (are_both vars (rows ++ cols) (no_two 32 (row_var i 0)) (are_both vars rows cols rows_in cols_in) (are_no_two vars 32 (row_var i 0) (omega arith) (omega arith)))
+    (are_both vars (rows ++ cols) (no_two 32 (row_var i 0)) (are_both vars rows cols rows_in cols_in)
+    (are_no_two vars 32 (row_var i 0) (omega arith) (omega arith)))
     (are_no_two vars 16 (col_var i 0) (omega arith) (omega arith))
 
 -- two labels
@@ -38,7 +39,8 @@ apart_valid vars n j i ordered room d_in =
     let var_is : var_of (minus d) ≡ d = var_minus d in
     are_both vars (apart_unless (minus d) 32 (row_var i 0) (row_var j 0)) (apart_unless (plus d) 16 (col_var i 0) (col_var j 0))
     (are_apart_unless vars 32 (row_var i 0) (row_var j 0) (minus d) not_d (omega arith) (omega arith) (omega arith))
-    (are_apart_unless vars 16 (col_var i 0) (col_var j 0) (plus d) (in_plus vars d (omega arith) d_in) (omega arith) (omega arith) (omega arith))
+    (are_apart_unless vars 16 (col_var i 0) (col_var j 0) (plus d) (in_plus vars d (omega arith) d_in) (omega arith) (omega arith)
+    (omega arith))
   where
     var_minus : (v : ℕ) → var_of (minus v) ≡ v
     var_minus zero = refl
@@ -48,13 +50,16 @@ apart_valid vars n j i ordered room d_in =
 pub at_valid : (vars i r c : ℕ) → 48 * i + 48 ≤ vars → r < 32 → c < 16 → All (IsClause vars) (at_clauses i r c)
 at_valid vars i r c room r_in c_in =
     are_both vars (one (plus (row_var i r) ∷ [])) (one (plus (col_var i c) ∷ []))
-    (are_one vars (plus (row_var i r) ∷ []) (valid_one vars (plus (row_var i r)) (in_plus vars (row_var i r) (omega arith) (omega arith))))
-    (are_one vars (plus (col_var i c) ∷ []) (valid_one vars (plus (col_var i c)) (in_plus vars (col_var i c) (omega arith) (omega arith))))
+    (are_one vars (plus (row_var i r) ∷ [])
+    (valid_one vars (plus (row_var i r)) (in_plus vars (row_var i r) (omega arith) (omega arith))))
+    (are_one vars (plus (col_var i c) ∷ [])
+    (valid_one vars (plus (col_var i c)) (in_plus vars (col_var i c) (omega arith) (omega arith))))
 
 -- the row bound of a label
 pub bound_valid : (vars rows i : ℕ) → 48 * i + 48 ≤ vars → All (IsClause vars) (bound_clauses rows i)
 bound_valid vars rows i room = are_upto vars (32 - rows) (λ k. not_in_row i (rows + k)) (λ k k_in.
-    are_one vars (minus (row_var i (rows + k)) ∷ []) (valid_one vars (minus (row_var i (rows + k))) (in_minus vars (row_var i (rows + k)) (omega arith) (omega arith))))
+    are_one vars (minus (row_var i (rows + k)) ∷ [])
+    (valid_one vars (minus (row_var i (rows + k))) (in_minus vars (row_var i (rows + k)) (omega arith) (omega arith))))
 
 -- a label in a row that is reached
 reach_valid : (vars : ℕ) (k : Kind) (s x : ℕ) → 48 * s + 48 ≤ vars → 48 * x + 48 ≤ vars → All (IsClause vars) (reach_clauses k s x)
@@ -77,15 +82,20 @@ goto_valid vars n s m s_in m_in room =
     let m_below : 48 * m + 48 ≤ 48 * n = omega arith in
     let s_below : 48 * s + 48 ≤ 48 * n = omega arith in
     let ways_in : IsClause vars ways =
-    valid_three vars (plus a) (plus b) (plus c) (in_plus vars a (omega arith) a_in) (in_plus vars b (omega arith) b_in) (in_plus vars c (omega arith) room)
+    valid_three vars (plus a) (plus b) (plus c) (in_plus vars a (omega arith) a_in) (in_plus vars b (omega arith) b_in)
+    (in_plus vars c (omega arith) room)
     (plus_other a b (omega arith)) (plus_other a c (omega arith)) (plus_other b c (omega arith)) in
-    let zero_in : IsClause vars zero_row = valid_two vars (minus b) (plus (row_var m 0)) (in_minus vars b (omega arith) b_in) (in_plus vars (row_var m 0) (omega arith) (omega arith)) (minus_plus b (row_var m 0) (omega arith)) in
+    let zero_in : IsClause vars zero_row =
+    valid_two vars (minus b) (plus (row_var m 0)) (in_minus vars b (omega arith) b_in)
+    (in_plus vars (row_var m 0) (omega arith) (omega arith)) (minus_plus b (row_var m 0) (omega arith)) in
     let low_in : IsClause vars low =
-    valid_two vars (minus b) (minus (col_var m 15)) (in_minus vars b (omega arith) b_in) (in_minus vars (col_var m 15) (omega arith) (omega arith)) (minus_apart b (col_var m 15) (λ e. absurd (omega arith))) in
+    valid_two vars (minus b) (minus (col_var m 15)) (in_minus vars b (omega arith) b_in)
+    (in_minus vars (col_var m 15) (omega arith) (omega arith)) (minus_apart b (col_var m 15) (λ e. absurd (omega arith))) in
     are_both vars (one ways ++ cols ++ one zero_row ++ one low) rows
     (are_both vars (one ways ++ cols ++ one zero_row) (one low)
     (are_both vars (one ways ++ cols) (one zero_row)
-    (are_both vars (one ways) cols (are_one vars ways ways_in) (are_same_where vars a 16 (col_var s 0) (col_var m 0) (omega arith) (omega arith) (omega arith) (omega arith) a_in))
+    (are_both vars (one ways) cols (are_one vars ways ways_in)
+    (are_same_where vars a 16 (col_var s 0) (col_var m 0) (omega arith) (omega arith) (omega arith) (omega arith) a_in))
     (are_one vars zero_row zero_in))
     (are_one vars low low_in))
     (are_same_where vars c 32 (row_var s 0) (row_var m 0) (omega arith) (omega arith) (omega arith) (omega arith) room)
@@ -94,10 +104,12 @@ goto_valid vars n s m s_in m_in room =
     plus_other v w lt e = let same : v ≡ w = cc in omega arith
 
 -- `enable`
-pub enable_valid : (vars s m : ℕ) → 48 * s + 48 ≤ vars → 48 * m + 48 ≤ vars → All (IsClause vars) (same 16 (col_var s 0) (col_var m 0) ++ reach_clauses kind.Enable s m)
+pub enable_valid : (vars s m : ℕ) → 48 * s + 48 ≤ vars → 48 * m + 48 ≤ vars
+    → All (IsClause vars) (same 16 (col_var s 0) (col_var m 0) ++ reach_clauses kind.Enable s m)
 enable_valid vars s m s_room m_room =
     are_both vars (same 16 (col_var s 0) (col_var m 0)) (reach_clauses kind.Enable s m)
-    (are_same vars 16 (col_var s 0) (col_var m 0) (omega arith) (omega arith) (omega arith) (omega arith)) (reach_valid vars kind.Enable s m s_room m_room)
+    (are_same vars 16 (col_var s 0) (col_var m 0) (omega arith) (omega arith) (omega arith) (omega arith))
+    (reach_valid vars kind.Enable s m s_room m_room)
 
 -- an outcome lands in a column of the matrix
 pub col_below : (k : Kind) (o c : ℕ) → o < outcomes_of k → c < 16 → col_of k o c < 16
@@ -113,7 +125,8 @@ col_below kind.OnLeft o c o_in c_in = omega arith
 col_below kind.OnRight o c o_in c_in = omega arith
 
 -- a label in the column of an outcome
-cols_valid : (vars : ℕ) (k : Kind) (s o y : ℕ) → o < outcomes_of k → 48 * s + 48 ≤ vars → 48 * y + 48 ≤ vars → All (IsClause vars) (col_clauses k s o y)
+cols_valid : (vars : ℕ) (k : Kind) (s o y : ℕ) → o < outcomes_of k → 48 * s + 48 ≤ vars → 48 * y + 48 ≤ vars
+    → All (IsClause vars) (col_clauses k s o y)
 cols_valid vars k s o y o_in s_room y_room = by (keeps_half k)
   where
     by : (b : Bool) → All (IsClause vars) (if b then upto 16 (col_clause k s o y) else one (plus (col_var y (col_of k o 0)) ∷ []))
@@ -121,21 +134,27 @@ cols_valid vars k s o y o_in s_room y_room = by (keeps_half k)
         let to : col_of k o c < 16 = col_below k o c o_in c_in in
         are_one vars (minus (col_var s c) ∷ plus (col_var y (col_of k o c)) ∷ [])
         (valid_two vars (minus (col_var s c)) (plus (col_var y (col_of k o c))) (in_minus vars (col_var s c) (omega arith) (omega arith))
-        (in_plus vars (col_var y (col_of k o c)) (omega arith) (omega arith)) (minus_plus (col_var s c) (col_var y (col_of k o c)) (omega arith))))
+        (in_plus vars (col_var y (col_of k o c)) (omega arith) (omega arith))
+        (minus_plus (col_var s c) (col_var y (col_of k o c)) (omega arith))))
     by false =
         let to : col_of k o 0 < 16 = col_below k o 0 o_in (omega arith) in
-        are_one vars (plus (col_var y (col_of k o 0)) ∷ []) (valid_one vars (plus (col_var y (col_of k o 0))) (in_plus vars (col_var y (col_of k o 0)) (omega arith) (omega arith)))
+        are_one vars (plus (col_var y (col_of k o 0)) ∷ [])
+        (valid_one vars (plus (col_var y (col_of k o 0))) (in_plus vars (col_var y (col_of k o 0)) (omega arith) (omega arith)))
 
 -- the label of an outcome
-outcome_valid : (vars : ℕ) (k : Kind) (s e x o y : ℕ) → o < outcomes_of k → 48 * s + 48 ≤ vars → 48 * x + 48 ≤ vars → 48 * y + 48 ≤ vars → All (IsClause vars) (outcome_clauses k s e x o y)
+outcome_valid : (vars : ℕ) (k : Kind) (s e x o y : ℕ) → o < outcomes_of k → 48 * s + 48 ≤ vars → 48 * x + 48 ≤ vars → 48 * y + 48 ≤ vars
+    → All (IsClause vars) (outcome_clauses k s e x o y)
 outcome_valid vars k s e x o y o_in s_room x_room y_room = by (o == e)
   where
     by : (b : Bool) → All (IsClause vars) ((if b then [] else same 32 (row_var x 0) (row_var y 0)) ++ col_clauses k s o y)
     by true = cols_valid vars k s o y o_in s_room y_room
-    by false = are_both vars (same 32 (row_var x 0) (row_var y 0)) (col_clauses k s o y) (are_same vars 32 (row_var x 0) (row_var y 0) (omega arith) (omega arith) (omega arith) (omega arith)) (cols_valid vars k s o y o_in s_room y_room)
+    by false = are_both vars (same 32 (row_var x 0) (row_var y 0)) (col_clauses k s o y)
+        (are_same vars 32 (row_var x 0) (row_var y 0) (omega arith) (omega arith) (omega arith) (omega arith))
+        (cols_valid vars k s o y o_in s_room y_room)
 
 -- a test
-pub test_valid : (vars : ℕ) (k : Kind) (s : ℕ) (ts : List (Option ℕ)) (e x : ℕ) → length ts ≡ outcomes_of k → 48 * s + 48 ≤ vars → 48 * x + 48 ≤ vars
+pub test_valid : (vars : ℕ) (k : Kind) (s : ℕ) (ts : List (Option ℕ)) (e x : ℕ) → length ts ≡ outcomes_of k → 48 * s + 48 ≤ vars
+    → 48 * x + 48 ≤ vars
     → ((o y : ℕ) → slice_get ts o ≡ Some (Some y) → 48 * y + 48 ≤ vars) → All (IsClause vars) (test_clauses k s ts e x)
 test_valid vars k s ts e x count s_room x_room rooms =
     are_both vars (reach_clauses k s x) (each_of ts (target_clauses k s e x)) (reach_valid vars k s x s_room x_room)

@@ -28,7 +28,8 @@ landing-at n k x e o w place z each some z_in ne front =
       label_in = z_in;
       apart = λ (same : x ≡ z). ne (sym same);
       place_in = omega arith;
-      there = ap (slice_get (upto n (trap_of n k x e o))) (sym front) ∙ slice_get-upto n (trap_of n k x e o) z (place % w) z_in (omega arith) ∙ ap (λ l. slice_get l (place % w)) other;
+      there = ap (slice_get (upto n (trap_of n k x e o))) (sym front)
+          ∙ slice_get-upto n (trap_of n k x e o) z (place % w) z_in (omega arith) ∙ ap (λ l. slice_get l (place % w)) other;
     }
 
 -- so many labels have clauses before the place
@@ -42,7 +43,8 @@ pub landing-before : (n : ℕ) (k : Kind) (x e o w place : ℕ) → ((z : ℕ) �
     → place / w < x → IsLanding n k x e o w place (place / w)
 landing-before n k x e o w place each some x_in before =
     let split : place / w * w + place % w ≡ place = div-add-mod' place w in
-    let front : length (upto (place / w) (trap_of n k x e o)) ≡ place / w * w = length-before_label n k x e o w (place / w) each (omega arith) in
+    let front : length (upto (place / w) (trap_of n k x e o)) ≡ place / w * w =
+    length-before_label n k x e o w (place / w) each (omega arith) in
     landing-at n k x e o w place (place / w) each some (omega arith) (λ (same : place / w ≡ x). omega arith) (omega arith)
 
 -- a label after x
@@ -51,5 +53,6 @@ pub landing-after : (n : ℕ) (k : Kind) (x e o w place : ℕ) → ((z : ℕ) �
 landing-after n k x e o w place each some x_in place_in after =
     let below : place / w < n - 1 = landing-below n k x e o w place each some x_in place_in in
     let split : place / w * w + place % w ≡ place = div-add-mod' place w in
-    let front : length (upto (place / w + 1) (trap_of n k x e o)) ≡ place / w * w = length-after_label n k x e o w (place / w) each after in
+    let front : length (upto (place / w + 1) (trap_of n k x e o)) ≡ place / w * w =
+    length-after_label n k x e o w (place / w) each after in
     landing-at n k x e o w place (place / w + 1) each some (omega arith) (λ (same : place / w + 1 ≡ x). omega arith) (omega arith)

@@ -59,9 +59,11 @@ valid_more vars a c p apart h = record {
 pub valid_two : (vars : ℕ) (a b : ℤ) → IsIn vars a → IsIn vars b → a ≢ b → IsClause vars (a ∷ b ∷ [])
 valid_two vars a b p q apart = valid_more vars a (b ∷ []) p (All-cons (λ z. a ≢ z) b [] apart (All-nil (λ z. a ≢ z))) (valid_one vars b q)
 
-pub valid_three : (vars : ℕ) (a b c : ℤ) → IsIn vars a → IsIn vars b → IsIn vars c → a ≢ b → a ≢ c → b ≢ c → IsClause vars (a ∷ b ∷ c ∷ [])
+pub valid_three : (vars : ℕ) (a b c : ℤ) → IsIn vars a → IsIn vars b → IsIn vars c → a ≢ b → a ≢ c → b ≢ c
+    → IsClause vars (a ∷ b ∷ c ∷ [])
 valid_three vars a b c p q r ab ac bc =
-    valid_more vars a (b ∷ c ∷ []) p (All-cons (λ z. a ≢ z) b (c ∷ []) ab (All-cons (λ z. a ≢ z) c [] ac (All-nil (λ z. a ≢ z)))) (valid_two vars b c q r bc)
+    valid_more vars a (b ∷ c ∷ []) p (All-cons (λ z. a ≢ z) b (c ∷ []) ab (All-cons (λ z. a ≢ z) c [] ac (All-nil (λ z. a ≢ z))))
+    (valid_two vars b c q r bc)
 
 -- ---- lists of clauses
 
@@ -74,7 +76,8 @@ are_both vars cs ds h k = All-append (IsClause vars) cs ds h k
 pub are_upto : (vars n : ℕ) (f : ℕ → List (List ℤ)) → ((k : ℕ) → k < n → All (IsClause vars) (f k)) → All (IsClause vars) (upto n f)
 are_upto vars n f h = All-upto (IsClause vars) n f h
 
-pub are_at_place : {X : Type 0} (vars : ℕ) (xs : List X) (f : ℕ → X → List (List ℤ)) (i : ℕ) → ((x : X) → slice_get xs i ≡ Some x → All (IsClause vars) (f i x)) → All (IsClause vars) (at_place xs f i)
+pub are_at_place : {X : Type 0} (vars : ℕ) (xs : List X) (f : ℕ → X → List (List ℤ)) (i : ℕ)
+    → ((x : X) → slice_get xs i ≡ Some x → All (IsClause vars) (f i x)) → All (IsClause vars) (at_place xs f i)
 are_at_place {X} vars xs f i h = by (slice_get xs i) h
   where
     by : (o : Option X) → ((x : X) → o ≡ Some x → All (IsClause vars) (f i x)) → All (IsClause vars) (option_map_or (f i) o [])
@@ -84,24 +87,31 @@ are_at_place {X} vars xs f i h = by (slice_get xs i) h
 -- ---- shapes
 
 pub are_no_two : (vars n v : ℕ) → 0 < v → v + n ≤ vars + 1 → All (IsClause vars) (no_two n v)
-are_no_two vars n v above room = are_upto vars n (not_with_later n v) (λ r r_in. are_upto vars (n - (r + 1)) (λ k. not_both v r (r + 1 + k)) (λ k k_in.
+are_no_two vars n v above room =
+    are_upto vars n (not_with_later n v) (λ r r_in. are_upto vars (n - (r + 1)) (λ k. not_both v r (r + 1 + k)) (λ k k_in.
     are_one vars (minus (v + r) ∷ minus (v + (r + 1 + k)) ∷ []) (valid_two vars (minus (v + r)) (minus (v + (r + 1 + k)))
-    (in_minus vars (v + r) (omega arith) (omega arith)) (in_minus vars (v + (r + 1 + k)) (omega arith) (omega arith)) (minus_apart (v + r) (v + (r + 1 + k)) (λ e. absurd (omega arith))))))
+    (in_minus vars (v + r) (omega arith) (omega arith)) (in_minus vars (v + (r + 1 + k)) (omega arith) (omega arith))
+    (minus_apart (v + r) (v + (r + 1 + k)) (λ e. absurd (omega arith))))))
 
 pub are_same : (vars n v w : ℕ) → 0 < v → 0 < w → v + n ≤ vars + 1 → w + n ≤ vars + 1 → All (IsClause vars) (same n v w)
 are_same vars n v w v_above w_above v_room w_room = are_upto vars n (follows v w) (λ k k_in.
-    are_one vars (minus (v + k) ∷ plus (w + k) ∷ []) (valid_two vars (minus (v + k)) (plus (w + k)) (in_minus vars (v + k) (omega arith) (omega arith)) (in_plus vars (w + k) (omega arith) (omega arith)) (minus_plus (v + k) (w + k) (omega arith))))
+    are_one vars (minus (v + k) ∷ plus (w + k) ∷ [])
+    (valid_two vars (minus (v + k)) (plus (w + k)) (in_minus vars (v + k) (omega arith) (omega arith))
+    (in_plus vars (w + k) (omega arith) (omega arith)) (minus_plus (v + k) (w + k) (omega arith))))
 
 pub are_same_where : (vars g n v w : ℕ) → 0 < v → 0 < w → v + n ≤ g → w + n ≤ g → g ≤ vars → All (IsClause vars) (same_where g n v w)
 are_same_where vars g n v w v_above w_above v_room w_room g_in = are_upto vars n (follows_where g v w) (λ k k_in.
     are_one vars (minus g ∷ minus (v + k) ∷ plus (w + k) ∷ []) (valid_three vars (minus g) (minus (v + k)) (plus (w + k))
-    (in_minus vars g (omega arith) g_in) (in_minus vars (v + k) (omega arith) (omega arith)) (in_plus vars (w + k) (omega arith) (omega arith))
+    (in_minus vars g (omega arith) g_in) (in_minus vars (v + k) (omega arith) (omega arith))
+    (in_plus vars (w + k) (omega arith) (omega arith))
     (minus_apart g (v + k) (λ e. absurd (omega arith))) (minus_plus g (w + k) (omega arith)) (minus_plus (v + k) (w + k) (omega arith))))
 
-pub are_apart_unless : (vars n v w : ℕ) (z : ℤ) → IsIn vars z → 0 < v → v + n ≤ w → w + n ≤ var_of z → All (IsClause vars) (apart_unless z n v w)
+pub are_apart_unless : (vars n v w : ℕ) (z : ℤ) → IsIn vars z → 0 < v → v + n ≤ w → w + n ≤ var_of z
+    → All (IsClause vars) (apart_unless z n v w)
 are_apart_unless vars n v w z z_in v_above ordered room = are_upto vars n (not_both_unless z v w) (λ k k_in.
     are_one vars (z ∷ minus (v + k) ∷ minus (w + k) ∷ []) (valid_three vars z (minus (v + k)) (minus (w + k))
-    z_in (in_minus vars (v + k) (omega arith) (omega (arith, z_in.below))) (in_minus vars (w + k) (omega arith) (omega (arith, z_in.below)))
+    z_in (in_minus vars (v + k) (omega arith) (omega (arith, z_in.below)))
+    (in_minus vars (w + k) (omega arith) (omega (arith, z_in.below)))
     (other z (v + k) (omega arith)) (other z (w + k) (omega arith)) (minus_apart (v + k) (w + k) (λ e. absurd (omega arith)))))
   where
     var_minus : (v : ℕ) → var_of (minus v) ≡ v

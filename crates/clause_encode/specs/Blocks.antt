@@ -30,12 +30,14 @@ block_count g = length g.instrs + (length g.instrs + (length g.pins + (1 + (leng
 
 -- the clauses of a block of the last two classes
 abbrev pub instr_block : Graph → ℕ → List (List ℤ)
-instr_block g = joined (length g.instrs) (at_place g.instrs (instr_clauses (length g.instrs))) (at_place g.instrs (instr_traps (length g.instrs)))
+instr_block g = joined (length g.instrs) (at_place g.instrs (instr_clauses (length g.instrs)))
+    (at_place g.instrs (instr_traps (length g.instrs)))
 
 -- the clauses of a block of the third class, or of a later one
 abbrev pub given_block : Graph → ℕ → List (List ℤ)
 given_block g =
-    joined (length g.pins) (at_place g.pins pin_clauses) (joined 1 (λ _. at_clauses g.start 0 0) (joined (length g.instrs) (bound_clauses g.rows) (instr_block g)))
+    joined (length g.pins) (at_place g.pins pin_clauses)
+    (joined 1 (λ _. at_clauses g.start 0 0) (joined (length g.instrs) (bound_clauses g.rows) (instr_block g)))
 
 -- the clauses of the block of a number
 abbrev pub numbered_block : Graph → ℕ → List (List ℤ)

@@ -17,8 +17,8 @@ use place_model::Placement;
 use placement_clauses::Truths;
 use std::alloc::Global;
 
-// The cell of each pin is one of the matrix, as the type of a cell says of each.
-fn pin_cells(pins: &[Pin])
+/// The cell of each pin is one of the matrix, as the type of a cell says of each.
+pub(crate) fn pin_cells(pins: &[Pin])
     ensures { HavePinCells pins.now }
 {
     for pin in pins {

@@ -27,8 +27,10 @@ pub record AreOne (g other : Graph) (bytes other_bytes : List ℕ) (said other_s
 some_bytes : (file : Option (List ℕ)) (a b : List ℕ) → file ≡ Some a → file ≡ Some b → b ≡ a
 some_bytes file a b one two = let same : Some b ≡ Some a = sym two ∙ one in cc
 
-pub accepted_once : (src script : List ℕ) (files : List ℕ → Option (List ℕ)) (g other : Graph) (bytes other_bytes : List ℕ) (said other_said : BusScript)
-    → IsAccepted src script files g bytes said → IsAccepted src script files other other_bytes other_said → AreOne g other bytes other_bytes said other_said
+pub accepted_once : (src script : List ℕ) (files : List ℕ → Option (List ℕ)) (g other : Graph) (bytes other_bytes : List ℕ)
+    (said other_said : BusScript)
+    → IsAccepted src script files g bytes said → IsAccepted src script files other other_bytes other_said
+    → AreOne g other bytes other_bytes said other_said
 accepted_once src script files g other bytes other_bytes said other_said one two =
     let source : two.source ≡ one.source = some_bytes (files src) one.source two.source one.source_held.there two.source_held.there in
     let graph : other ≡ g = one_value (source_of two.source) other g two.meant (ap source_of source ∙ one.meant) in
@@ -40,11 +42,13 @@ accepted_once src script files g other bytes other_bytes said other_said one two
 -- ---- files that were had
 
 -- a file that was had holds its bytes
-pub had_holds : (name : List ℕ) (limit : ℕ) (old new : ShelfState) (bytes : List ℕ) → IsTrue old.tells → HasFile name limit old new bytes → Holds old.file name limit bytes
+pub had_holds : (name : List ℕ) (limit : ℕ) (old new : ShelfState) (bytes : List ℕ) → IsTrue old.tells → HasFile name limit old new bytes
+    → Holds old.file name limit bytes
 had_holds name limit old new bytes tells has = record { there = has.told tells; fits = has.fits }
 
 -- the files that a command starts from are accepted
-pub starts_accepted : (src script : List ℕ) (old new : ShelfState) (g : Graph) (bytes : List ℕ) → IsTrue old.tells → (starts : StartsFrom src script old new g bytes)
+pub starts_accepted : (src script : List ℕ) (old new : ShelfState) (g : Graph) (bytes : List ℕ) → IsTrue old.tells
+    → (starts : StartsFrom src script old new g bytes)
     → IsAccepted src script old.file g bytes starts.read.said
 starts_accepted src script old new g bytes tells starts =
     let later = tells_goes_on old starts.mid starts.source.file.goes_on tells in
@@ -57,10 +61,12 @@ starts_accepted src script old new g bytes tells starts =
       says = starts.read.meant;
     }
 
-pub starts_go_on : (src script : List ℕ) (old new : ShelfState) (g : Graph) (bytes : List ℕ) → StartsFrom src script old new g bytes → GoesOn old new
+pub starts_go_on : (src script : List ℕ) (old new : ShelfState) (g : Graph) (bytes : List ℕ) → StartsFrom src script old new g bytes
+    → GoesOn old new
 starts_go_on src script old new g bytes starts = goes_on_both old starts.mid new starts.source.file.goes_on starts.read.file.goes_on
 
-pub starts_same : (src script : List ℕ) (old new : ShelfState) (g : Graph) (bytes : List ℕ) → StartsFrom src script old new g bytes → new.file ≡ old.file
+pub starts_same : (src script : List ℕ) (old new : ShelfState) (g : Graph) (bytes : List ℕ) → StartsFrom src script old new g bytes
+    → new.file ≡ old.file
 starts_same src script old new g bytes starts = starts.read.file.same ∙ starts.source.file.same
 
 -- ---- files that were not had
@@ -70,7 +76,8 @@ pub record IsUnread (old new : ShelfState) (s : Status) : Type 0 where
   pub status_is : s ≡ status.ShelfFault
   pub rose : Rose old.faults new.faults
 
-unread_by : (name : List ℕ) (old mid new : ShelfState) (s : Status) (text : List ℕ) → GoesOn old mid → CannotRead name mid new s text → IsUnread old new s
+unread_by : (name : List ℕ) (old mid new : ShelfState) (s : Status) (text : List ℕ) → GoesOn old mid → CannotRead name mid new s text
+    → IsUnread old new s
 unread_by name old mid new s text goes_on unread = record {
   status_is = unread.reply.status_is;
   rose = omega (arith, goes_on.later, unread.rose);
@@ -93,16 +100,20 @@ source_read src old new source g other tells held meant has =
     one_value (source_of has.bytes) other g has.meant (ap source_of same ∙ meant)
 
 -- a script that says this is not had only where a read fails
-script_unread : (script : List ℕ) (slices : ℕ) (old new : ShelfState) (bytes : List ℕ) (said : BusScript) (s : Status) (text : List ℕ) → IsTrue old.tells
-    → Holds old.file script script_limit bytes → script_of slices bytes ≡ Ok said → ScriptReply script slices old new s text → CannotRead script old new s text
+script_unread : (script : List ℕ) (slices : ℕ) (old new : ShelfState) (bytes : List ℕ) (said : BusScript) (s : Status) (text : List ℕ)
+    → IsTrue old.tells
+    → Holds old.file script script_limit bytes → script_of slices bytes ≡ Ok said → ScriptReply script slices old new s text
+    → CannotRead script old new s text
 script_unread script slices old new bytes said s text tells held says (inl reply) =
     file_unread script script_limit old new s text bytes tells held.there held.fits reply
 script_unread script slices old new bytes said s text tells held says (inr refused) =
     let same = file_read script script_limit old new refused.bytes bytes tells held.there refused.file in
-    absurd (not_both (script_of slices refused.bytes) said (refused.told.line, refused.told.kind) (ap (λ (b : List ℕ). script_of slices b) same ∙ says) refused.told.meant)
+    absurd (not_both (script_of slices refused.bytes) said (refused.told.line, refused.told.kind)
+    (ap (λ (b : List ℕ). script_of slices b) same ∙ says) refused.told.meant)
 
 -- accepted files are not had only where a read fails
-pub inputs_unread : (src script : List ℕ) (old new : ShelfState) (g : Graph) (bytes : List ℕ) (said : BusScript) (s : Status) (text : List ℕ) → IsTrue old.tells
+pub inputs_unread : (src script : List ℕ) (old new : ShelfState) (g : Graph) (bytes : List ℕ) (said : BusScript) (s : Status)
+    (text : List ℕ) → IsTrue old.tells
     → IsAccepted src script old.file g bytes said → InputsReply src script old new s text → IsUnread old new s
 inputs_unread src script old new g bytes said s text tells accepted (inl reply) =
     let unread = source_unread src old new accepted.source g s text tells accepted.source_held accepted.meant reply in
@@ -124,7 +135,8 @@ inputs_unread src script old new g bytes said s text tells accepted (inr lacks) 
 abbrev pub RefusesOrFails : Status → Type 0
 RefusesOrFails s = (s ≡ status.Input) ⊎ (s ≡ status.ShelfFault)
 
-file_status : (name : List ℕ) (limit : ℕ) (old new : ShelfState) (s : Status) (text : List ℕ) → FileReply name limit old new s text → RefusesOrFails s
+file_status : (name : List ℕ) (limit : ℕ) (old new : ShelfState) (s : Status) (text : List ℕ) → FileReply name limit old new s text
+    → RefusesOrFails s
 file_status name limit old new s text reply = go reply.reason
   where
     go : NoFile name limit old new s text ⊎ TooLong name limit old new s text ⊎ CannotRead name old new s text → RefusesOrFails s
@@ -132,7 +144,8 @@ file_status name limit old new s text reply = go reply.reason
     go (inr (inl long)) = inl long.reply.status_is
     go (inr (inr unread)) = inr unread.reply.status_is
 
-pub inputs_status : (src script : List ℕ) (old new : ShelfState) (s : Status) (text : List ℕ) → InputsReply src script old new s text → RefusesOrFails s
+pub inputs_status : (src script : List ℕ) (old new : ShelfState) (s : Status) (text : List ℕ) → InputsReply src script old new s text
+    → RefusesOrFails s
 inputs_status src script old new s text (inl (inl reply)) = file_status src source_limit old new s text reply
 inputs_status src script old new s text (inl (inr refused)) = inl refused.told.status_is
 inputs_status src script old new s text (inr lacks) = go lacks.reply

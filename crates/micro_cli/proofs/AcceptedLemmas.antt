@@ -37,7 +37,8 @@ vars_fit n few =
     omega (arith, squares)
 
 -- the answer for a file that is a refutation's text
-file_refutes : (g : Graph) (lines : List Line) → length (refutation_text (length (clauses_of g)) lines) ≤ 2 ^ 43 → Refutes (list_of g) lines →
+file_refutes : (g : Graph) (lines : List Line) → length (refutation_text (length (clauses_of g)) lines) ≤ 2 ^ 43
+    → Refutes (list_of g) lines →
     length g.instrs ≤ 512 → length (clauses_of g) + length lines < 2 ^ 32 →
     check_file refutation_limit (list_of g) (refutation_text (length (clauses_of g)) lines) ≡ Some (checked.Refutes (length lines))
 file_refutes g lines short refutes few small =
@@ -53,15 +54,18 @@ pub accepted : (name : List ℕ) (g : Graph) (lines : List Line) (old new : Shel
     RefutationReply name g old new s text → TellsAnswer (checked.Refutes (length lines)) s text ⊎ CannotRead name old new s text
 accepted name g lines old new s text tells file short refutes few small reply = by reply.reason
   where
-    whole : check_file refutation_limit (list_of g) (refutation_text (length (clauses_of g)) lines) ≡ Some (checked.Refutes (length lines))
+    whole : check_file refutation_limit (list_of g) (refutation_text (length (clauses_of g)) lines) ≡ Some
+        (checked.Refutes (length lines))
     whole = file_refutes g lines short refutes few small
 
-    by : IsAnswer name g old new s text ⊎ NoFile name refutation_limit old new s text ⊎ IsTooLong name g old new s text ⊎ CannotRead name old new s text →
+    by : IsAnswer name g old new s text ⊎ NoFile name refutation_limit old new s text ⊎ IsTooLong name g old new s text
+        ⊎ CannotRead name old new s text →
         TellsAnswer (checked.Refutes (length lines)) s text ⊎ CannotRead name old new s text
     by (inl answer) =
         let told : check_file refutation_limit (list_of g) (refutation_text (length (clauses_of g)) lines) ≡ Some answer.answer =
         subst (λ (f : Option (List ℕ)). Explains f refutation_limit (list_of g) (Ok answer.answer)) file (answer.told tells) in
-        let same : answer.answer ≡ checked.Refutes (length lines) = same_answer _ answer.answer (checked.Refutes (length lines)) told whole in
+        let same : answer.answer ≡ checked.Refutes (length lines) =
+        same_answer _ answer.answer (checked.Refutes (length lines)) told whole in
         inl (subst (λ (a : Checked). TellsAnswer a s text) same answer.reply)
     by (inr (inl absent)) =
         absurd (subst (λ (f : Option (List ℕ)). ExplainsFault f refutation_limit load_fault.NoFile) file (absent.told tells))

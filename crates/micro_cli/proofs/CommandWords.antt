@@ -3,7 +3,8 @@ use Rattle.std.proofs.Common.{ℕ, ◌≡◌, ◌≢◌, List, [], ◌∷◌, le
 use Rattle.micro_cli.specs.Command.{command_of}
 
 -- a command has two, three, four or six words
-pub no_command : (words : List (List ℕ)) → length words ≢ 2 → length words ≢ 3 → length words ≢ 4 → length words ≢ 6 → command_of words ≡ None
+pub no_command : (words : List (List ℕ)) → length words ≢ 2 → length words ≢ 3 → length words ≢ 4 → length words ≢ 6
+    → command_of words ≡ None
 no_command [] two three four six = refl
 no_command (a ∷ []) two three four six = refl
 no_command (a ∷ b ∷ []) two three four six = absurd (two refl)

@@ -35,11 +35,13 @@ abbrev FewWith : Facts → Result Line AsmKind → Type 0
 FewWith facts (Ok line) = length (with_line facts line).instrs ≤ 128
 FewWith facts (Err kind) = Unit {0}
 
-few_if : (facts : Facts) (b : Bool) (kind : AsmKind) (read : Result Line AsmKind) → FewWith facts read → FewWith facts (if b then Err kind else read)
+few_if : (facts : Facts) (b : Bool) (kind : AsmKind) (read : Result Line AsmKind) → FewWith facts read
+    → FewWith facts (if b then Err kind else read)
 few_if facts true kind read few = tt
 few_if facts false kind read few = few
 
-few_unless : (facts : Facts) (refused : Option AsmKind) (directive : Directive) → length facts.instrs ≤ 128 → FewWith facts (unless_refused refused (Declares directive))
+few_unless : (facts : Facts) (refused : Option AsmKind) (directive : Directive) → length facts.instrs ≤ 128
+    → FewWith facts (unless_refused refused (Declares directive))
 few_unless facts None directive few = few
 few_unless facts (Some kind) directive few = tt
 
@@ -52,14 +54,17 @@ few_room : (facts : Facts) (read : Result NamedInstr AsmKind) (b : Bool) → nat
 few_room facts read true full = tt
 few_room facts read false room = few_more facts read (grind (arith, nat_tests, room))
 
-few_instruction : (facts : Facts) (number : ℕ) (instruction : WrittenInstr) (slices : Option ℕ) → FewWith facts (instruction_judged facts number instruction slices)
+few_instruction : (facts : Facts) (number : ℕ) (instruction : WrittenInstr) (slices : Option ℕ)
+    → FewWith facts (instruction_judged facts number instruction slices)
 few_instruction facts number instruction None = tt
 few_instruction facts number instruction (Some slices) =
     let read = instruction_read slices facts.declared number instruction in
-    few_if facts (has_label facts.instrs instruction.label) kinds.LabelTwice (if nat_le 128 (length facts.instrs) then Err kinds.TooMany else (read >>= instructs))
+    few_if facts (has_label facts.instrs instruction.label) kinds.LabelTwice
+    (if nat_le 128 (length facts.instrs) then Err kinds.TooMany else (read >>= instructs))
     (few_room facts read (nat_le 128 (length facts.instrs)) refl)
 
-few_judged : (facts : Facts) (number : ℕ) (source_line : SourceLine) → length facts.instrs ≤ 128 → FewWith facts (judged facts number source_line)
+few_judged : (facts : Facts) (number : ℕ) (source_line : SourceLine) → length facts.instrs ≤ 128
+    → FewWith facts (judged facts number source_line)
 unfolding judged
 few_judged facts number source_lines.Nothing few = few
 few_judged facts number (source_lines.Declares directive) few =
@@ -67,7 +72,8 @@ few_judged facts number (source_lines.Declares directive) few =
     few_if facts (is_late facts) kinds.Late (unless_refused refused (Declares directive)) (few_unless facts refused directive few)
 few_judged facts number (source_lines.Rows rows) few =
     let wrong = is_some facts.rows || nat_lt rows 1 || nat_lt 32 rows in
-    few_if facts (is_late facts) kinds.Late (if wrong then Err kinds.Rows else Ok (Rows rows)) (few_if facts wrong kinds.Rows (Ok (Rows rows)) few)
+    few_if facts (is_late facts) kinds.Late (if wrong then Err kinds.Rows else Ok (Rows rows))
+    (few_if facts wrong kinds.Rows (Ok (Rows rows)) few)
 few_judged facts number (source_lines.Start label) few =
     few_if facts (is_some facts.start) kinds.StartTwice (Ok (Starts (record { line = number; label = label }))) few
 few_judged facts number (source_lines.Pin label row col) few =
@@ -76,15 +82,18 @@ few_judged facts number (source_lines.Pin label row col) few =
     (few_if facts (is_pinned facts.pins label) kinds.PinTwice pin few)
 few_judged facts number (source_lines.Instruct instruction) few = few_instruction facts number instruction facts.declared.slices
 
-few_formed : (facts : Facts) (number : ℕ) (formed : Result SourceLine AsmKind) → length facts.instrs ≤ 128 → FewWith facts (formed >>= judged facts number)
+few_formed : (facts : Facts) (number : ℕ) (formed : Result SourceLine AsmKind) → length facts.instrs ≤ 128
+    → FewWith facts (formed >>= judged facts number)
 few_formed facts number (Ok source_line) few = few_judged facts number source_line few
 few_formed facts number (Err kind) few = tt
 
-few_worded : (facts : Facts) (number : ℕ) (words : Result (List Word) AsmKind) → length facts.instrs ≤ 128 → FewWith facts (words >>= source_line_form >>= judged facts number)
+few_worded : (facts : Facts) (number : ℕ) (words : Result (List Word) AsmKind) → length facts.instrs ≤ 128
+    → FewWith facts (words >>= source_line_form >>= judged facts number)
 few_worded facts number (Ok words) few = few_formed facts number (source_line_form words) few
 few_worded facts number (Err kind) few = tt
 
-few_line : (earlier : List Line) (line : List ℕ) → length (facts_of earlier).instrs ≤ 128 → FewWith (facts_of earlier) (line_read earlier line)
+few_line : (earlier : List Line) (line : List ℕ) → length (facts_of earlier).instrs ≤ 128
+    → FewWith (facts_of earlier) (line_read earlier line)
 unfolding line_read
 few_line earlier line few = few_worded (facts_of earlier) (length earlier + 1) (words_of line) few
 
@@ -107,14 +116,16 @@ FewRead (Err fault) = Unit {0}
 few_next : (earlier : List Line) (number : ℕ) (rest : List (List ℕ)) (read : Result Line AsmKind)
     → ((line : Line) → length (facts_of (earlier ++ line ∷ [])).instrs ≤ 128 → FewRead (lines_read (earlier ++ line ∷ []) rest))
     → FewWith (facts_of earlier) read → FewRead (in_line number read >>= λ line. lines_read (earlier ++ line ∷ []) rest)
-few_next earlier number rest (Ok line) more few = more line (subst (λ (instrs : List NamedInstr). length instrs ≤ 128) (sym (instrs_push earlier line)) few)
+few_next earlier number rest (Ok line) more few =
+    more line (subst (λ (instrs : List NamedInstr). length instrs ≤ 128) (sym (instrs_push earlier line)) few)
 few_next earlier number rest (Err kind) more few = tt
 
 few_lines : (rest : List (List ℕ)) (earlier : List Line) → length (facts_of earlier).instrs ≤ 128 → FewRead (lines_read earlier rest)
 unfolding lines_read
 few_lines [] earlier few = few
 few_lines (line ∷ rest) earlier few =
-    few_next earlier (length earlier + 1) rest (line_read earlier line) (λ read more. few_lines rest (earlier ++ read ∷ []) more) (few_line earlier line few)
+    few_next earlier (length earlier + 1) rest (line_read earlier line) (λ read more. few_lines rest (earlier ++ read ∷ []) more)
+    (few_line earlier line few)
 
 -- ---- the program
 
@@ -122,7 +133,8 @@ abbrev FewIn : Result Graph (ℕ × AsmKind) → Type 0
 FewIn (Ok g) = length g.instrs ≤ 128
 FewIn (Err fault) = Unit {0}
 
-few_built : (facts : Facts) (start : StartLine) (declared : Result Declaration (ℕ × AsmKind)) → length facts.instrs ≤ 128 → FewIn (declared >>= ok_graph facts start)
+few_built : (facts : Facts) (start : StartLine) (declared : Result Declaration (ℕ × AsmKind)) → length facts.instrs ≤ 128
+    → FewIn (declared >>= ok_graph facts start)
 few_built facts start (Ok decl) few = omega (arith, few, length-map facts.instrs (instr_of facts.instrs))
 few_built facts start (Err fault) few = tt
 
@@ -141,7 +153,8 @@ few_given false fault graph few = few
 
 few_program : (facts : Facts) → length facts.instrs ≤ 128 → FewIn (program_of facts)
 unfolding program_of
-few_program facts few = few_given (length facts.instrs == 0) (0, kinds.Empty) (started facts facts.start) (few_started facts facts.start few)
+few_program facts few =
+    few_given (length facts.instrs == 0) (0, kinds.Empty) (started facts facts.start) (few_started facts facts.start few)
 
 few_source : (read : Result (List Line) (ℕ × AsmKind)) → FewRead read → FewIn (read >>= λ all. program_of (facts_of all))
 few_source (Ok all) few = few_program (facts_of all) few
@@ -158,7 +171,8 @@ few_vars n few =
     let pairs : n * (n - 1) ≤ 128 * 127 = mul-le n (n - 1) 128 127 few (omega arith) in
     omega (arith, pairs, few)
 
-pub short_refutation : (source : List ℕ) (g : Graph) (lines conflicts size : ℕ) → source_of source ≡ Ok g → lines ≤ conflicts + 1 → size ≤ lines * (12 * var_count_of (length g.instrs) + 27)
+pub short_refutation : (source : List ℕ) (g : Graph) (lines conflicts size : ℕ) → source_of source ≡ Ok g → lines ≤ conflicts + 1
+    → size ≤ lines * (12 * var_count_of (length g.instrs) + 27)
     → conflicts ≤ 1000000 → size < 2 ^ 39
 short_refutation source g lines conflicts size meant few bound budget =
     let vars : var_count_of (length g.instrs) ≤ 14656 = few_vars (length g.instrs) (few_instrs source g meant) in

@@ -72,17 +72,20 @@ pub data Outcome (src script out : List ℕ) (clocks conflicts : ℕ) (old new :
 
 -- ---- from the answer
 
-unsaved : (src script : List ℕ) (old new : ShelfState) (start : Start src script old) (files : List SavedFile) (s : Status) (text : List ℕ)
+unsaved : (src script : List ℕ) (old new : ShelfState) (start : Start src script old) (files : List SavedFile) (s : Status)
+    (text : List ℕ)
     → CannotSave files start.mid new s text → LacksFile old new s
 unsaved src script old new start files s text cannot =
     let goes_on = starts_go_on src script old start.mid start.g start.bytes start.starts in
     record { status_is = cannot.status_is; rose = omega (arith, goes_on.later, cannot.failed.rose) }
 
-found_outcome : (src script out : List ℕ) (clocks conflicts : ℕ) (old new : ShelfState) (s : Status) (text : List ℕ) (start : Start src script old)
+found_outcome : (src script out : List ℕ) (clocks conflicts : ℕ) (old new : ShelfState) (s : Status) (text : List ℕ)
+    (start : Start src script old)
     → FoundAnswer out script start.bytes clocks start.g start.mid new s text → Outcome src script out clocks conflicts old new s text
 found_outcome src script out clocks conflicts old new s text start answer = go answer.placed.answer
   where
-    go : FilesAnswer out script start.bytes clocks answer.placed.files start.mid new s text → Outcome src script out clocks conflicts old new s text
+    go : FilesAnswer out script start.bytes clocks answer.placed.files start.mid new s text
+        → Outcome src script out clocks conflicts old new s text
     go (inl cannot) = lacks_file (unsaved src script old new start answer.placed.files s text cannot)
     go (inr (inl saved)) =
         found (record {
@@ -95,20 +98,27 @@ found_outcome src script out clocks conflicts old new s text start answer = go a
         })
     go (inr (inr wants)) = lacks_memory wants.wants.status_is
 
-refuted_outcome : (src script out : List ℕ) (clocks conflicts : ℕ) (old new : ShelfState) (s : Status) (text : List ℕ) (start : Start src script old)
+refuted_outcome : (src script out : List ℕ) (clocks conflicts : ℕ) (old new : ShelfState) (s : Status) (text : List ℕ)
+    (start : Start src script old)
     → RefutedAnswer out start.g conflicts start.mid new s text → Outcome src script out clocks conflicts old new s text
 refuted_outcome src script out clocks conflicts old new s text start answer = go answer.answer
   where
-    go : SavesOrCannot (refuted_files out (refutation_text (length (clauses_of start.g)) answer.lines)) status.Refuted (refuted_line (length answer.lines)) start.mid new s text → Outcome src script out clocks conflicts old new s text
-    go (inl cannot) = lacks_file (unsaved src script old new start (refuted_files out (refutation_text (length (clauses_of start.g)) answer.lines)) s text cannot)
+    go : SavesOrCannot (refuted_files out (refutation_text (length (clauses_of start.g)) answer.lines)) status.Refuted
+        (refuted_line (length answer.lines)) start.mid new s text → Outcome src script out clocks conflicts old new s text
+    go (inl cannot) = lacks_file
+        (unsaved src script old new start (refuted_files out (refutation_text (length (clauses_of start.g)) answer.lines)) s text cannot)
     go (inr saved) = refuted (record { start = start; answer = answer; status_is = saved.status_is })
 
-undecided_outcome : (src script out : List ℕ) (clocks conflicts : ℕ) (old new : ShelfState) (s : Status) (text : List ℕ) (start : Start src script old)
+undecided_outcome : (src script out : List ℕ) (clocks conflicts : ℕ) (old new : ShelfState) (s : Status) (text : List ℕ)
+    (start : Start src script old)
     → UndecidedAnswer out start.g conflicts start.mid new s text → Outcome src script out clocks conflicts old new s text
 undecided_outcome src script out clocks conflicts old new s text start answer = go answer.answer
   where
-    go : SavesOrCannot (undecided_files out (part_text (length (clauses_of start.g)) answer.lines answer.clash)) status.Undecided (undecided_line conflicts) start.mid new s text → Outcome src script out clocks conflicts old new s text
-    go (inl cannot) = lacks_file (unsaved src script old new start (undecided_files out (part_text (length (clauses_of start.g)) answer.lines answer.clash)) s text cannot)
+    go : SavesOrCannot (undecided_files out (part_text (length (clauses_of start.g)) answer.lines answer.clash)) status.Undecided
+        (undecided_line conflicts) start.mid new s text → Outcome src script out clocks conflicts old new s text
+    go (inl cannot) = lacks_file
+        (unsaved src script old new start (undecided_files out (part_text (length (clauses_of start.g)) answer.lines answer.clash))
+        s text cannot)
     go (inr saved) = undecided (record { start = start; answer = answer; status_is = saved.status_is })
 
 -- what an answer came to
@@ -124,7 +134,8 @@ outcome_of src script out clocks conflicts old new s text (inr from) = go from.a
     start : Start src script old
     start = record { g = from.g; bytes = from.bytes; mid = from.mid; starts = from.starts }
 
-    go : UnlessUnsaved from.mid new (SearchEnd out script from.bytes clocks conflicts from.g from.mid new) s text → Outcome src script out clocks conflicts old new s text
+    go : UnlessUnsaved from.mid new (SearchEnd out script from.bytes clocks conflicts from.g from.mid new) s text
+        → Outcome src script out clocks conflicts old new s text
     go (inl wants) = lacks_memory wants.status_is
     go (inr (inl answer)) = found_outcome src script out clocks conflicts old new s text start answer
     go (inr (inr (inl answer))) = refuted_outcome src script out clocks conflicts old new s text start answer
@@ -138,7 +149,8 @@ pub record Wrote (answer : Status → List ℕ → Type 0) (before after : SinkS
   pub is : answer s text
   pub written : Writes before after text
 
-pub ends_wrote : (answer : Status → List ℕ → Type 0) (before after : SinkState) (s : Status) → IsTrue before.tells → (s ≡ status.SinkFault → ⊥)
+pub ends_wrote : (answer : Status → List ℕ → Type 0) (before after : SinkState) (s : Status) → IsTrue before.tells
+    → (s ≡ status.SinkFault → ⊥)
     → Ends answer before after s → Wrote answer before after s
 ends_wrote answer before after s tells fine (inl said) = record { text = said.0; is = said.1; written = said.2 tells }
 ends_wrote answer before after s tells fine (inr failed) = absurd (fine failed.0)

@@ -9,12 +9,15 @@ use Rattle.micro_cli.specs.Searching.{SearchAnswer}
 use Rattle.micro_cli.specs.Making.{StartsFrom, MakeAnswer}
 
 -- what the search answers of inputs that were had
-pub make_from : (src script out : List ℕ) (clocks conflicts : ℕ) (old mid new : ShelfState) (g : Graph) (bytes : List ℕ) → StartsFrom src script old mid g bytes
-    → (s : Status) (text : List ℕ) → SearchAnswer out script bytes clocks conflicts g mid new s text → MakeAnswer src script out clocks conflicts old new s text
+pub make_from : (src script out : List ℕ) (clocks conflicts : ℕ) (old mid new : ShelfState) (g : Graph) (bytes : List ℕ)
+    → StartsFrom src script old mid g bytes
+    → (s : Status) (text : List ℕ) → SearchAnswer out script bytes clocks conflicts g mid new s text
+    → MakeAnswer src script out clocks conflicts old new s text
 make_from src script out clocks conflicts old mid new g bytes starts s text answer =
     inr (record { g = g; bytes = bytes; mid = mid; starts = starts; answer = answer })
 
 -- what is replied where inputs were not had
 pub make_without : (src script out : List ℕ) (clocks conflicts : ℕ) (old new : ShelfState) → new.file ≡ old.file
-    → (s : Status) (text : List ℕ) → OrNoMemory (InputsReply src script old new) s text → MakeAnswer src script out clocks conflicts old new s text
+    → (s : Status) (text : List ℕ) → OrNoMemory (InputsReply src script old new) s text
+    → MakeAnswer src script out clocks conflicts old new s text
 make_without src script out clocks conflicts old new same s text told = inl (record { told = told; same = same })

@@ -24,7 +24,8 @@ parse_number ds r parses digits =
     parse_digits (numerals_by_value (λ xs. all_ascii_digits xs ≡ true) tells_all_ascii_digits) 64 ds r parses (all_digits ds ∙ digits)
 
 -- digits that are not parsed write a number of more bits
-pub parse_wide : {E : Type 0} → (ds : List ℕ) (e : E) → ParsesUnsigned 64 10 ds (Err e) → list_all is_ascii_digit ds ≡ true → 0 < length ds → 2 ^ 64 ≤ digits_value 10 ds
+pub parse_wide : {E : Type 0} → (ds : List ℕ) (e : E) → ParsesUnsigned 64 10 ds (Err e) → list_all is_ascii_digit ds ≡ true
+    → 0 < length ds → 2 ^ 64 ≤ digits_value 10 ds
 parse_wide ds e parses digits some = elim (cases_lt (digits_value 10 ds) (2 ^ 64)) [
   | inl small ↦ absurd (parse_number ds (Err e) parses digits (some, small))
   | inr wide ↦ wide
@@ -35,18 +36,22 @@ drop_key [] rest = refl
 drop_key (k ∷ key) rest = drop_key key rest
 
 -- a word that is the key and more
-pub number_after_there : (key : List ℕ) (limit : ℕ) (word rest : List ℕ) → word ≡ key ++ rest → number_after key limit word ≡ number_up_to limit rest
+pub number_after_there : (key : List ℕ) (limit : ℕ) (word rest : List ℕ) → word ≡ key ++ rest
+    → number_after key limit word ≡ number_up_to limit rest
 number_after_there key limit word rest e =
-    let same : bytes_eq key (take (length key) word) ≡ true = (bytes_eq-Decides key (take (length key) word)).1 (sym (ap (take (length key)) e ∙ take-append_seam key rest)) in
+    let same : bytes_eq key (take (length key) word) ≡ true =
+    (bytes_eq-Decides key (take (length key) word)).1 (sym (ap (take (length key)) e ∙ take-append_seam key rest)) in
     let left : drop (length key) word ≡ rest = ap (drop (length key)) e ∙ drop_key key rest in
     rw (same, left) refl
 
 -- a word that does not begin with the key
-pub number_after_absent : (key : List ℕ) (limit : ℕ) (word : List ℕ) → ((rest : List ℕ) → word ≢ key ++ rest) → number_after key limit word ≡ None
+pub number_after_absent : (key : List ℕ) (limit : ℕ) (word : List ℕ) → ((rest : List ℕ) → word ≢ key ++ rest)
+    → number_after key limit word ≡ None
 number_after_absent key limit word lacks = go (bytes_eq key (take (length key) word)) refl
   where
     go : (b : Bool) → bytes_eq key (take (length key) word) ≡ b → number_after key limit word ≡ None
     go true e =
         let begins : key ≡ take (length key) word = (bytes_eq-Decides key (take (length key) word)).0 e in
-        absurd (lacks (drop (length key) word) (sym (take-append-drop (length key) word) ∙ ap (λ front. front ++ drop (length key) word) (sym begins)))
+        absurd (lacks (drop (length key) word)
+        (sym (take-append-drop (length key) word) ∙ ap (λ front. front ++ drop (length key) word) (sym begins)))
     go false e = rw e refl

@@ -11,7 +11,8 @@ use Rattle.micro_cli.specs.Headline.{SavesImages, ReadsBack, SavesRefutation, Ch
 use Rattle.micro_cli.proofs.MakeLaws.{SavedIsReadBack, ImagesFollow, done_made, done_read_back, input_read_back, accepted_decides, accepted_not_refused, nothing_changed}
 use Rattle.micro_cli.proofs.UnplacedLaws.{refuted_stands, refuted_checks, undecided_stands}
 
-pub images_kept : SavedIsReadBack → ImagesFollow → (command : Option Command) (old new : ShelfState) (before after : SinkState) (s : Status)
+pub images_kept : SavedIsReadBack → ImagesFollow
+    → (command : Option Command) (old new : ShelfState) (before after : SinkState) (s : Status)
     → Ends (Answer command old new) before after s → SavesImages command old new before after s
 images_kept law follow (Some (make src script out clocks conflicts)) old new before after s ends =
     λ told tells done. done_made law follow src script out clocks conflicts old new before after s told tells done ends
@@ -48,7 +49,8 @@ pub checking_kept : (command : Option Command) (old new : ShelfState) (before af
     → Ends (Answer command old new) before after s → ChecksOut command old new before after s
 checking_kept (Some (make src script out clocks conflicts)) old new before after s ends =
     λ start end t text told tells is budget differs start_tells same reply.
-    refuted_checks src script out conflicts old new start end before after t text (refuted_stands src script out clocks conflicts old new before after s told tells is ends) budget differs start_tells same reply
+    refuted_checks src script out conflicts old new start end before after t text
+    (refuted_stands src script out clocks conflicts old new before after s told tells is ends) budget differs start_tells same reply
 checking_kept (Some (map src)) old new before after s ends = tt
 checking_kept (Some (flow src script clocks)) old new before after s ends = tt
 checking_kept (Some (run out script clocks)) old new before after s ends = tt
@@ -68,7 +70,8 @@ budget_kept None old new before after s ends = tt
 pub decision_kept : SavedIsReadBack → (command : Option Command) (old new : ShelfState) (before after : SinkState) (s : Status)
     → Ends (Answer command old new) before after s → Decides command old new before after s
 decision_kept law (Some (make src script out clocks conflicts)) old new before after s ends =
-    λ g bytes said told tells accepted faultless. accepted_decides law src script out clocks conflicts old new before after s g bytes said told accepted faultless ends
+    λ g bytes said told tells accepted faultless.
+    accepted_decides law src script out clocks conflicts old new before after s g bytes said told accepted faultless ends
 decision_kept law (Some (map src)) old new before after s ends = tt
 decision_kept law (Some (flow src script clocks)) old new before after s ends = tt
 decision_kept law (Some (run out script clocks)) old new before after s ends = tt
@@ -78,7 +81,8 @@ decision_kept law None old new before after s ends = tt
 pub acceptance_kept : SavedIsReadBack → (command : Option Command) (old new : ShelfState) (before after : SinkState) (s : Status)
     → Ends (Answer command old new) before after s → NeverRefuses command old s
 acceptance_kept law (Some (make src script out clocks conflicts)) old new before after s ends =
-    λ g bytes said told accepted. accepted_not_refused law src script out clocks conflicts old new before after s g bytes said told accepted ends
+    λ g bytes said told accepted.
+    accepted_not_refused law src script out clocks conflicts old new before after s g bytes said told accepted ends
 acceptance_kept law (Some (map src)) old new before after s ends = tt
 acceptance_kept law (Some (flow src script clocks)) old new before after s ends = tt
 acceptance_kept law (Some (run out script clocks)) old new before after s ends = tt

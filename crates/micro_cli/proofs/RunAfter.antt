@@ -22,12 +22,14 @@ use Rattle.bench_answers.specs.ReadingBack.{placed_line, ShiftOrRun, WordsBack, 
 use Rattle.micro_cli.specs.After.{IsRefused, LayoutDeclares, ImagesNothing, AreFirst, LacksOne, HoldsWords, AfterReply}
 
 -- a refused input, as the run of these files tells it
-pub record IsRefusedRun (files : List ℕ → Option (List ℕ)) (out script bytes : List ℕ) (clocks : ℕ) (s : Status) (text : List ℕ) : Type 0 where
+pub record IsRefusedRun (files : List ℕ → Option (List ℕ)) (out script bytes : List ℕ) (clocks : ℕ) (s : Status) (text : List ℕ)
+    : Type 0 where
   pub status_is : s ≡ status.Input
   pub reply : AfterReply files out script bytes clocks s text
 
 -- the line `placed`, and the text of the run of these files
-pub record IsDoneRun (files : List ℕ → Option (List ℕ)) (out script bytes : List ℕ) (clocks : ℕ) (s : Status) (text : List ℕ) : Type 0 where
+pub record IsDoneRun (files : List ℕ → Option (List ℕ)) (out script bytes : List ℕ) (clocks : ℕ) (s : Status) (text : List ℕ)
+    : Type 0 where
   pub status_is : s ≡ status.Done
   pub run : List ℕ
   pub reply : AfterReply files out script bytes clocks s run
@@ -56,22 +58,27 @@ long_refused (Some bytes) name limit s text explained reply = (explained, reply)
 abbrev OrFails : Type 0 → Status → Type 0
 OrFails refusal s = ((s ≡ status.Input) × refusal) ⊎ (s ≡ status.ShelfFault)
 
-file_after : (name : List ℕ) (limit : ℕ) (old new : ShelfState) (s : Status) (text : List ℕ) → IsTrue old.tells → FileReply name limit old new s text
+file_after : (name : List ℕ) (limit : ℕ) (old new : ShelfState) (s : Status) (text : List ℕ) → IsTrue old.tells
+    → FileReply name limit old new s text
     → OrFails (IsRefused (old.file name) name limit s text) s
 file_after name limit old new s text tells reply = go reply.reason
   where
-    go : NoFile name limit old new s text ⊎ TooLong name limit old new s text ⊎ CannotRead name old new s text → OrFails (IsRefused (old.file name) name limit s text) s
+    go : NoFile name limit old new s text ⊎ TooLong name limit old new s text ⊎ CannotRead name old new s text
+        → OrFails (IsRefused (old.file name) name limit s text) s
     go (inl none) = inl (none.reply.status_is, none_refused (old.file name) name limit s text (none.told tells) none.reply)
     go (inr (inl long)) = inl (long.reply.status_is, long_refused (old.file name) name limit s text (long.told tells) long.reply)
     go (inr (inr unread)) = inr unread.reply.status_is
 
 -- ---- the layout
 
-layout_after : (out script bytes : List ℕ) (clocks : ℕ) (old new : ShelfState) (s : Status) (text : List ℕ) → IsTrue old.tells → LayoutReply out old new s text
+layout_after : (out script bytes : List ℕ) (clocks : ℕ) (old new : ShelfState) (s : Status) (text : List ℕ) → IsTrue old.tells
+    → LayoutReply out old new s text
     → RunsOrFails old.file out script bytes clocks s text
-layout_after out script bytes clocks old new s text tells (inl reply) = go (file_after (layout_name out) layout_limit old new s text tells reply)
+layout_after out script bytes clocks old new s text tells (inl reply) =
+    go (file_after (layout_name out) layout_limit old new s text tells reply)
   where
-    go : OrFails (IsRefused (old.file (layout_name out)) (layout_name out) layout_limit s text) s → RunsOrFails old.file out script bytes clocks s text
+    go : OrFails (IsRefused (old.file (layout_name out)) (layout_name out) layout_limit s text) s
+        → RunsOrFails old.file out script bytes clocks s text
     go (inl refused) = inl (record { status_is = refused.0; reply = inl refused.1 })
     go (inr failed) = inr (inr failed)
 layout_after out script bytes clocks old new s text tells (inr refused) =
@@ -87,7 +94,8 @@ layout_after out script bytes clocks old new s text tells (inr refused) =
       }));
     })
 
-declares : (out : List ℕ) (decl : Declaration) (old new : ShelfState) → IsTrue old.tells → HasLayout out old new decl → LayoutDeclares old.file out decl
+declares : (out : List ℕ) (decl : Declaration) (old new : ShelfState) → IsTrue old.tells → HasLayout out old new decl
+    → LayoutDeclares old.file out decl
 declares out decl old new tells has = record {
   bytes = has.bytes;
   held = record { there = has.file.told tells; fits = has.file.fits };
@@ -96,7 +104,8 @@ declares out decl old new tells has = record {
 
 -- ---- the images
 
-first_had : (out : List ℕ) (bits count : ℕ) (old new : ShelfState) (images : List Image) → IsTrue old.tells → HasImages out bits count old new images
+first_had : (out : List ℕ) (bits count : ℕ) (old new : ShelfState) (images : List Image) → IsTrue old.tells
+    → HasImages out bits count old new images
     → AreFirst old.file out bits count images
 first_had out bits count old new images tells has = record {
   all = had.all;
@@ -109,14 +118,19 @@ first_had out bits count old new images tells has = record {
     had = images_had out bits count old new images has
 
 -- an image that is not had, by the files of an earlier state
-image_after : (out : List ℕ) (bits number : ℕ) (old mid new : ShelfState) (s : Status) (text : List ℕ) → IsTrue mid.tells → mid.file ≡ old.file → ImageReply (image_name out number) bits mid new s text
-    → OrFails (IsRefused (old.file (image_name out number)) (image_name out number) image_limit s text ⊎ ImagesNothing old.file (image_name out number) bits s text) s
-image_after out bits number old mid new s text tells same (inl reply) = go (file_after (image_name out number) image_limit mid new s text tells reply)
+image_after : (out : List ℕ) (bits number : ℕ) (old mid new : ShelfState) (s : Status) (text : List ℕ) → IsTrue mid.tells
+    → mid.file ≡ old.file → ImageReply (image_name out number) bits mid new s text
+    → OrFails (IsRefused (old.file (image_name out number)) (image_name out number) image_limit s text
+    ⊎ ImagesNothing old.file (image_name out number) bits s text) s
+image_after out bits number old mid new s text tells same (inl reply) =
+    go (file_after (image_name out number) image_limit mid new s text tells reply)
   where
     go : OrFails (IsRefused (mid.file (image_name out number)) (image_name out number) image_limit s text) s
-        → OrFails (IsRefused (old.file (image_name out number)) (image_name out number) image_limit s text ⊎ ImagesNothing old.file (image_name out number) bits s text) s
+        → OrFails (IsRefused (old.file (image_name out number)) (image_name out number) image_limit s text
+        ⊎ ImagesNothing old.file (image_name out number) bits s text) s
     go (inl refused) =
-        let P : (List ℕ → Option (List ℕ)) → Type 0 = λ files. IsRefused (files (image_name out number)) (image_name out number) image_limit s text in
+        let P : (List ℕ → Option (List ℕ))
+        → Type 0 = λ files. IsRefused (files (image_name out number)) (image_name out number) image_limit s text in
         inl (refused.0, inl (subst P same refused.1))
     go (inr failed) = inr failed
 image_after out bits number old mid new s text tells same (inr refused) =
@@ -133,7 +147,8 @@ image_after out bits number old mid new s text tells same (inr refused) =
     )
 
 -- where an image is not had, the first such is told, or a read failed
-images_after : (out : List ℕ) (bits count : ℕ) (old new : ShelfState) (s : Status) (text : List ℕ) → IsTrue old.tells → ImagesReply out bits count old new s text
+images_after : (out : List ℕ) (bits count : ℕ) (old new : ShelfState) (s : Status) (text : List ℕ) → IsTrue old.tells
+    → ImagesReply out bits count old new s text
     → OrFails (LacksOne old.file out bits count s text) s
 images_after out bits count old new s text tells reply =
     go (image_after out bits reply.number old reply.mid new s text (tells_goes_on old reply.mid had.goes_on tells) had.same reply.reply)
@@ -141,7 +156,8 @@ images_after out bits count old new s text tells reply =
     had : AreHad out bits reply.number old reply.mid reply.images
     had = images_had out bits reply.number old reply.mid reply.images reply.earlier
 
-    go : OrFails (IsRefused (old.file (image_name out reply.number)) (image_name out reply.number) image_limit s text ⊎ ImagesNothing old.file (image_name out reply.number) bits s text) s
+    go : OrFails (IsRefused (old.file (image_name out reply.number)) (image_name out reply.number) image_limit s text
+        ⊎ ImagesNothing old.file (image_name out reply.number) bits s text) s
         → OrFails (LacksOne old.file out bits count s text) s
     go (inl refused) =
         inl (
@@ -158,21 +174,29 @@ images_after out bits count old new s text tells reply =
 
 -- ---- the words
 
-lacks_after : (out script bytes : List ℕ) (clocks : ℕ) (old new : ShelfState) (s : Status) (text : List ℕ) → IsTrue old.tells → LacksImage out old new s text
+lacks_after : (out script bytes : List ℕ) (clocks : ℕ) (old new : ShelfState) (s : Status) (text : List ℕ) → IsTrue old.tells
+    → LacksImage out old new s text
     → RunsOrFails old.file out script bytes clocks s text
 lacks_after out script bytes clocks old new s text tells lacks =
-    go (images_after out lacks.decl.prom_bits (image_count lacks.decl) lacks.mid new s text (tells_goes_on old lacks.mid lacks.layout.file.goes_on tells) lacks.reply)
+    go (images_after out lacks.decl.prom_bits (image_count lacks.decl) lacks.mid new s text
+    (tells_goes_on old lacks.mid lacks.layout.file.goes_on tells) lacks.reply)
   where
-    go : OrFails (LacksOne lacks.mid.file out lacks.decl.prom_bits (image_count lacks.decl) s text) s → RunsOrFails old.file out script bytes clocks s text
+    go : OrFails (LacksOne lacks.mid.file out lacks.decl.prom_bits (image_count lacks.decl) s text) s
+        → RunsOrFails old.file out script bytes clocks s text
     go (inl refused) =
         let P : (List ℕ → Option (List ℕ)) → Type 0 = λ files. LacksOne files out lacks.decl.prom_bits (image_count lacks.decl) s text in
         inl (record {
           status_is = refused.0;
-          reply = inr (inr (lacks.decl, declares out lacks.decl old lacks.mid tells lacks.layout, inl (subst P lacks.layout.file.same refused.1)));
+          reply = inr (inr (
+            lacks.decl,
+            declares out lacks.decl old lacks.mid tells lacks.layout,
+            inl (subst P lacks.layout.file.same refused.1),
+          ));
         })
     go (inr failed) = inr (inr failed)
 
-holds_words : (out : List ℕ) (decl : Declaration) (words : List ℕ) (old new : ShelfState) → IsTrue old.tells → HasJoined out old new decl words
+holds_words : (out : List ℕ) (decl : Declaration) (words : List ℕ) (old new : ShelfState) → IsTrue old.tells
+    → HasJoined out old new decl words
     → HoldsWords old.file out decl words
 holds_words out decl words old new tells joined = record {
   images = joined.images;
@@ -181,8 +205,10 @@ holds_words out decl words old new tells joined = record {
 }
 
 -- what is replied to words and a script is a run, whose text follows the line `placed`
-script_after : (files : List ℕ → Option (List ℕ)) (out script bytes : List ℕ) (clocks : ℕ) (decl : Declaration) (words : List ℕ) (s : Status) (text : List ℕ)
-    → LayoutDeclares files out decl → HoldsWords files out decl words → WordsBack out script bytes clocks decl words s text → RunsOrFails files out script bytes clocks s text
+script_after : (files : List ℕ → Option (List ℕ)) (out script bytes : List ℕ) (clocks : ℕ) (decl : Declaration) (words : List ℕ)
+    (s : Status) (text : List ℕ)
+    → LayoutDeclares files out decl → HoldsWords files out decl words → WordsBack out script bytes clocks decl words s text
+    → RunsOrFails files out script bytes clocks s text
 script_after files out script bytes clocks decl words s text declared holds (inl refused) =
     inl (record {
       status_is = refused.reply.status_is;
@@ -224,8 +250,10 @@ script_after files out script bytes clocks decl words s text declared holds (inr
 
 pub back_is_run : (out script bytes : List ℕ) (clocks : ℕ) (old new : ShelfState) (s : Status) (text : List ℕ) → IsTrue old.tells
     → BackReply out script bytes clocks old new s text → RunsOrFails old.file out script bytes clocks s text
-back_is_run out script bytes clocks old new s text tells (inl (inl reply)) = layout_after out script bytes clocks old new s text tells reply
-back_is_run out script bytes clocks old new s text tells (inl (inr lacks)) = lacks_after out script bytes clocks old new s text tells lacks
+back_is_run out script bytes clocks old new s text tells (inl (inl reply)) =
+    layout_after out script bytes clocks old new s text tells reply
+back_is_run out script bytes clocks old new s text tells (inl (inr lacks)) =
+    lacks_after out script bytes clocks old new s text tells lacks
 back_is_run out script bytes clocks old new s text tells (inr (decl, words, has, answer)) =
     let P : (List ℕ → Option (List ℕ)) → Type 0 = λ files. HoldsWords files out decl words in
     let later = tells_goes_on old has.mid has.layout.file.goes_on tells in

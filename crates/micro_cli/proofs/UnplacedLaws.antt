@@ -44,14 +44,16 @@ IsSpent s = ⊥
 -- ---- the one file of a search that found no placement
 
 -- all files of other names stay
-only_file : (name bytes : List ℕ) (old new : ShelfState) → IsSaved old new (file_of name bytes ∷ []) → (other : List ℕ) → other ≢ name → new.file other ≡ old.file other
+only_file : (name bytes : List ℕ) (old new : ShelfState) → IsSaved old new (file_of name bytes ∷ []) → (other : List ℕ) → other ≢ name
+    → new.file other ≡ old.file other
 only_file name bytes old new saved other differs = saved.others other none
   where
     none : (i : ℕ) (x : SavedFile) → i < 1 → slice_get (file_of name bytes ∷ []) i ≡ Some x → x.name ≢ other
     none zero x less at same = let is : x ≡ file_of name bytes = cc in differs (sym same ∙ ap (λ (f : SavedFile). f.name) is)
     none (suc i) x less at same = omega (arith, less)
 
-started_file : (src script : List ℕ) (old new : ShelfState) (start : Start src script old) (name bytes : List ℕ) → IsSaved start.mid new (file_of name bytes ∷ [])
+started_file : (src script : List ℕ) (old new : ShelfState) (start : Start src script old) (name bytes : List ℕ)
+    → IsSaved start.mid new (file_of name bytes ∷ [])
     → (other : List ℕ) → other ≢ name → new.file other ≡ old.file other
 started_file src script old new start name bytes saved other differs =
     only_file name bytes start.mid new saved other differs
@@ -59,8 +61,11 @@ started_file src script old new start name bytes saved other differs =
 
 -- ---- refutations
 
-refuted_made : (src script out : List ℕ) (conflicts : ℕ) (old new : ShelfState) (before after : SinkState) (s : Status) (text : List ℕ) → IsTold old → Writes before after text
-    → (r : Refuted src script out conflicts old new s text) → SavesAndTells (refuted_files out (refutation_text (length (clauses_of r.start.g)) r.answer.lines)) status.Refuted (refuted_line (length r.answer.lines)) r.start.mid new s text
+refuted_made : (src script out : List ℕ) (conflicts : ℕ) (old new : ShelfState) (before after : SinkState) (s : Status) (text : List ℕ)
+    → IsTold old → Writes before after text
+    → (r : Refuted src script out conflicts old new s text)
+    → SavesAndTells (refuted_files out (refutation_text (length (clauses_of r.start.g)) r.answer.lines)) status.Refuted
+    (refuted_line (length r.answer.lines)) r.start.mid new s text
     → IsRefuted src script out conflicts old new before after
 refuted_made src script out conflicts old new before after s text told written r saved = record {
   g = r.start.g;
@@ -70,21 +75,26 @@ refuted_made src script out conflicts old new before after s text told written r
   lines = r.answer.lines;
   refutes = r.answer.refutes;
   few = r.answer.few;
-  saved = saved.saved.whole (told_start src script old r.start told) 0 (file_of (refutation_name out) (refutation_text (length (clauses_of r.start.g)) r.answer.lines)) (omega arith) refl;
-  others = started_file src script old new r.start (refutation_name out) (refutation_text (length (clauses_of r.start.g)) r.answer.lines) saved.saved;
+  saved = saved.saved.whole (told_start src script old r.start told) 0
+      (file_of (refutation_name out) (refutation_text (length (clauses_of r.start.g)) r.answer.lines)) (omega arith) refl;
+  others = started_file src script old new r.start (refutation_name out) (refutation_text (length (clauses_of r.start.g)) r.answer.lines)
+      saved.saved;
   written = written ∙ ap (λ (t : List ℕ). before.bytes ++ t) saved.text_is;
   checked_by = r.answer.accepted;
   numbered = r.answer.numbered;
-  short = λ budget. short_refutation accepted.source r.start.g (length r.answer.lines) conflicts (length (refutation_text (length (clauses_of r.start.g)) r.answer.lines)) accepted.meant r.answer.few r.answer.short budget;
+  short = λ budget. short_refutation accepted.source r.start.g (length r.answer.lines) conflicts
+      (length (refutation_text (length (clauses_of r.start.g)) r.answer.lines)) accepted.meant r.answer.few r.answer.short budget;
   none_legal = r.answer.none_legal;
 }
   where
     accepted : IsAccepted src script old.file r.start.g r.start.bytes r.start.starts.read.said
     accepted = starts_accepted src script old r.start.mid r.start.g r.start.bytes told.tells r.start.starts
 
-pub refuted_stands : (src script out : List ℕ) (clocks conflicts : ℕ) (old new : ShelfState) (before after : SinkState) (s : Status) → IsTold old → IsTrue before.tells → s ≡ status.Refuted
+pub refuted_stands : (src script out : List ℕ) (clocks conflicts : ℕ) (old new : ShelfState) (before after : SinkState) (s : Status)
+    → IsTold old → IsTrue before.tells → s ≡ status.Refuted
     → Ends (MakeAnswer src script out clocks conflicts old new) before after s → IsRefuted src script out conflicts old new before after
-refuted_stands src script out clocks conflicts old new before after s told tells is ends = go (outcome_of src script out clocks conflicts old new s wrote.text wrote.is)
+refuted_stands src script out clocks conflicts old new before after s told tells is ends =
+    go (outcome_of src script out clocks conflicts old new s wrote.text wrote.is)
   where
     no_fault : s ≡ status.SinkFault → ⊥
     no_fault fault = subst IsRefusal (sym is ∙ fault) tt
@@ -96,12 +106,16 @@ refuted_stands src script out clocks conflicts old new before after s told tells
     not_had (inl refuses) = absurd (subst IsRefusal (sym is ∙ refuses) tt)
     not_had (inr fails) = absurd (subst IsRefusal (sym is ∙ fails) tt)
 
-    not_run : (f : Found src script out clocks old new s wrote.text) → RunsOrFails f.all.after.file out script f.start.bytes clocks s wrote.text → IsRefuted src script out conflicts old new before after
+    not_run : (f : Found src script out clocks old new s wrote.text)
+        → RunsOrFails f.all.after.file out script f.start.bytes clocks s wrote.text
+        → IsRefuted src script out conflicts old new before after
     not_run f (inl refused) = absurd (subst IsRefusal (sym is ∙ refused.status_is) tt)
     not_run f (inr (inl done_run)) = absurd (subst IsRefusal (sym is ∙ done_run.status_is) tt)
     not_run f (inr (inr fails)) = absurd (subst IsRefusal (sym is ∙ fails) tt)
 
-    saved : (r : Refuted src script out conflicts old new s wrote.text) → SavesOrCannot (refuted_files out (refutation_text (length (clauses_of r.start.g)) r.answer.lines)) status.Refuted (refuted_line (length r.answer.lines)) r.start.mid new s wrote.text → IsRefuted src script out conflicts old new before after
+    saved : (r : Refuted src script out conflicts old new s wrote.text)
+        → SavesOrCannot (refuted_files out (refutation_text (length (clauses_of r.start.g)) r.answer.lines)) status.Refuted
+        (refuted_line (length r.answer.lines)) r.start.mid new s wrote.text → IsRefuted src script out conflicts old new before after
     saved r (inl cannot) = absurd (subst IsRefusal (sym is ∙ cannot.status_is) tt)
     saved r (inr tells_it) = refuted_made src script out conflicts old new before after s wrote.text told wrote.written r tells_it
 
@@ -114,8 +128,10 @@ refuted_stands src script out clocks conflicts old new before after s told tells
     go (undecided u) = absurd (subst IsRefusal (sym is ∙ u.status_is) tt)
 
 -- the check of a saved refutation is done, unless a fault is counted
-pub refuted_checks : (src script out : List ℕ) (conflicts : ℕ) (old new start end : ShelfState) (before after : SinkState) (t : Status) (text : List ℕ)
-    → IsRefuted src script out conflicts old new before after → conflicts ≤ 1000000 → src ≢ refutation_name out → IsTrue start.tells → start.file ≡ new.file
+pub refuted_checks : (src script out : List ℕ) (conflicts : ℕ) (old new start end : ShelfState) (before after : SinkState) (t : Status)
+    (text : List ℕ)
+    → IsRefuted src script out conflicts old new before after → conflicts ≤ 1000000 → src ≢ refutation_name out → IsTrue start.tells
+    → start.file ≡ new.file
     → CheckReply src (refutation_name out) start end t text → (t ≡ status.Done) ⊎ Rose start.faults end.faults
 refuted_checks src script out conflicts old new start end before after t text r budget differs tells same reply = go reply
   where
@@ -125,12 +141,16 @@ refuted_checks src script out conflicts old new start end before after t text r 
       fits = r.accepted.source_held.fits;
     }
 
-    checked_reply : (mid : ShelfState) → GoesOn start mid → mid.file ≡ start.file → RefutationReply (refutation_name out) r.g mid end t text → (t ≡ status.Done) ⊎ Rose start.faults end.faults
-    checked_reply mid goes_on kept told = by (accepted (refutation_name out) r.g r.lines mid end t text (tells_goes_on start mid goes_on tells)
-        (same_file start mid (refutation_name out) kept ∙ same_file new start (refutation_name out) same ∙ r.saved) (omega (arith, r.short budget)) r.refutes
+    checked_reply : (mid : ShelfState) → GoesOn start mid → mid.file ≡ start.file
+        → RefutationReply (refutation_name out) r.g mid end t text → (t ≡ status.Done) ⊎ Rose start.faults end.faults
+    checked_reply mid goes_on kept told =
+        by (accepted (refutation_name out) r.g r.lines mid end t text (tells_goes_on start mid goes_on tells)
+        (same_file start mid (refutation_name out) kept ∙ same_file new start (refutation_name out) same ∙ r.saved)
+        (omega (arith, r.short budget)) r.refutes
         (omega (arith, few_instrs r.accepted.source r.g r.accepted.meant)) r.numbered told)
       where
-        by : TellsAnswer (checked.Refutes (length r.lines)) t text ⊎ CannotRead (refutation_name out) mid end t text → (t ≡ status.Done) ⊎ Rose start.faults end.faults
+        by : TellsAnswer (checked.Refutes (length r.lines)) t text ⊎ CannotRead (refutation_name out) mid end t text
+            → (t ≡ status.Done) ⊎ Rose start.faults end.faults
         by (inl answer) = inl answer.status_is
         by (inr unread) = inr (omega (arith, goes_on.later, unread.rose))
 
@@ -143,8 +163,11 @@ refuted_checks src script out conflicts old new start end before after t text r 
 
 -- ---- spent budgets
 
-undecided_made : (src script out : List ℕ) (conflicts : ℕ) (old new : ShelfState) (before after : SinkState) (s : Status) (text : List ℕ) → IsTold old → Writes before after text
-    → (u : Undecided src script out conflicts old new s text) → SavesAndTells (undecided_files out (part_text (length (clauses_of u.start.g)) u.answer.lines u.answer.clash)) status.Undecided (undecided_line conflicts) u.start.mid new s text
+undecided_made : (src script out : List ℕ) (conflicts : ℕ) (old new : ShelfState) (before after : SinkState) (s : Status) (text : List ℕ)
+    → IsTold old → Writes before after text
+    → (u : Undecided src script out conflicts old new s text)
+    → SavesAndTells (undecided_files out (part_text (length (clauses_of u.start.g)) u.answer.lines u.answer.clash)) status.Undecided
+    (undecided_line conflicts) u.start.mid new s text
     → IsUndecided src script out conflicts old new before after
 undecided_made src script out conflicts old new before after s text told written u saved = record {
   g = u.start.g;
@@ -154,14 +177,18 @@ undecided_made src script out conflicts old new before after s text told written
   lines = u.answer.lines;
   clash = u.answer.clash;
   spent = u.answer.spent;
-  saved = saved.saved.whole (told_start src script old u.start told) 0 (file_of (undecided_name out) (part_text (length (clauses_of u.start.g)) u.answer.lines u.answer.clash)) (omega arith) refl;
-  others = started_file src script old new u.start (undecided_name out) (part_text (length (clauses_of u.start.g)) u.answer.lines u.answer.clash) saved.saved;
+  saved = saved.saved.whole (told_start src script old u.start told) 0
+      (file_of (undecided_name out) (part_text (length (clauses_of u.start.g)) u.answer.lines u.answer.clash)) (omega arith) refl;
+  others = started_file src script old new u.start (undecided_name out)
+      (part_text (length (clauses_of u.start.g)) u.answer.lines u.answer.clash) saved.saved;
   written = written ∙ ap (λ (t : List ℕ). before.bytes ++ t) saved.text_is;
 }
 
-pub undecided_stands : (src script out : List ℕ) (clocks conflicts : ℕ) (old new : ShelfState) (before after : SinkState) (s : Status) → IsTold old → IsTrue before.tells → s ≡ status.Undecided
+pub undecided_stands : (src script out : List ℕ) (clocks conflicts : ℕ) (old new : ShelfState) (before after : SinkState) (s : Status)
+    → IsTold old → IsTrue before.tells → s ≡ status.Undecided
     → Ends (MakeAnswer src script out clocks conflicts old new) before after s → IsUndecided src script out conflicts old new before after
-undecided_stands src script out clocks conflicts old new before after s told tells is ends = go (outcome_of src script out clocks conflicts old new s wrote.text wrote.is)
+undecided_stands src script out clocks conflicts old new before after s told tells is ends =
+    go (outcome_of src script out clocks conflicts old new s wrote.text wrote.is)
   where
     no_fault : s ≡ status.SinkFault → ⊥
     no_fault fault = subst IsSpent (sym is ∙ fault) tt
@@ -173,12 +200,16 @@ undecided_stands src script out clocks conflicts old new before after s told tel
     not_had (inl refuses) = absurd (subst IsSpent (sym is ∙ refuses) tt)
     not_had (inr fails) = absurd (subst IsSpent (sym is ∙ fails) tt)
 
-    not_run : (f : Found src script out clocks old new s wrote.text) → RunsOrFails f.all.after.file out script f.start.bytes clocks s wrote.text → IsUndecided src script out conflicts old new before after
+    not_run : (f : Found src script out clocks old new s wrote.text)
+        → RunsOrFails f.all.after.file out script f.start.bytes clocks s wrote.text
+        → IsUndecided src script out conflicts old new before after
     not_run f (inl refused) = absurd (subst IsSpent (sym is ∙ refused.status_is) tt)
     not_run f (inr (inl done_run)) = absurd (subst IsSpent (sym is ∙ done_run.status_is) tt)
     not_run f (inr (inr fails)) = absurd (subst IsSpent (sym is ∙ fails) tt)
 
-    saved : (u : Undecided src script out conflicts old new s wrote.text) → SavesOrCannot (undecided_files out (part_text (length (clauses_of u.start.g)) u.answer.lines u.answer.clash)) status.Undecided (undecided_line conflicts) u.start.mid new s wrote.text → IsUndecided src script out conflicts old new before after
+    saved : (u : Undecided src script out conflicts old new s wrote.text)
+        → SavesOrCannot (undecided_files out (part_text (length (clauses_of u.start.g)) u.answer.lines u.answer.clash)) status.Undecided
+        (undecided_line conflicts) u.start.mid new s wrote.text → IsUndecided src script out conflicts old new before after
     saved u (inl cannot) = absurd (subst IsSpent (sym is ∙ cannot.status_is) tt)
     saved u (inr tells_it) = undecided_made src script out conflicts old new before after s wrote.text told wrote.written u tells_it
 

@@ -12,7 +12,8 @@ pub record Holds (files : List ℕ → Option (List ℕ)) (name : List ℕ) (lim
   pub fits : length bytes ≤ limit
 
 -- the source is this program, these are the script's bytes, and for the program's array they say this
-pub record IsAccepted (src script : List ℕ) (files : List ℕ → Option (List ℕ)) (g : Graph) (bytes : List ℕ) (said : BusScript) : Type 0 where
+pub record IsAccepted (src script : List ℕ) (files : List ℕ → Option (List ℕ)) (g : Graph) (bytes : List ℕ) (said : BusScript)
+    : Type 0 where
   pub source : List ℕ
   pub source_held : Holds files src source_limit source
   pub meant : source_of source ≡ Ok g

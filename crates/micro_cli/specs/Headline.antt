@@ -47,7 +47,8 @@ Writes before after text = after.bytes ≡ before.bytes ++ text
 -- ---- images
 
 -- a legal placement is saved: its map, its layout, and each PROM image of its words
-pub record SavesPlacement (out : List ℕ) (g : Graph) (place : List Position) (words : List ℕ) (files : List ℕ → Option (List ℕ)) : Type 0 where
+pub record SavesPlacement (out : List ℕ) (g : Graph) (place : List Position) (words : List ℕ) (files : List ℕ → Option (List ℕ))
+    : Type 0 where
   pub legal : IsLegal g place
   pub map_bytes : List ℕ
   pub map_is : IsMapText g place map_bytes
@@ -56,7 +57,8 @@ pub record SavesPlacement (out : List ℕ) (g : Graph) (place : List Position) (
   pub words_are : AreWords g place words
   pub images : List Image
   pub images_are : AreImages g.decl words images
-  pub images_saved : (number : ℕ) (image : Image) → slice_get images number ≡ Some image → files (image_name out number) ≡ Some (image_text image)
+  pub images_saved : (number : ℕ) (image : Image) → slice_get images number ≡ Some image
+      → files (image_name out number) ≡ Some (image_text image)
 
 -- the words on the bench give the trace of the symbolic flow, for every script of the array and every number of clocks
 abbrev pub FollowsFlow : Graph → List Position → List ℕ → Type 0
@@ -99,7 +101,8 @@ RepliesAs out script bytes clocks new before after front s =
 -- the files at exit gives them, also over a shelf that is not honest.
 abbrev pub ReadsBack : Option Command → ShelfState → ShelfState → SinkState → SinkState → Status → Type 0
 ReadsBack (Some (make src script out clocks conflicts)) old new before after s =
-    (g : Graph) (bytes : List ℕ) (said : BusScript) → IsTrue old.tells → IsTrue before.tells → IsAccepted src script old.file g bytes said →
+    (g : Graph) (bytes : List ℕ) (said : BusScript) → IsTrue old.tells → IsTrue before.tells
+    → IsAccepted src script old.file g bytes said →
     (s ≡ status.Done → RepliesAs out script bytes clocks new before after placed_line status.Done)
     × (s ≡ status.Input → RepliesAs out script bytes clocks new before after [] status.Input)
 ReadsBack _ old new before after s = Unit {0}

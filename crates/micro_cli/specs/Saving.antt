@@ -8,7 +8,8 @@ use Rattle.bench_answers.specs.Placed.{CannotSave}
 use Rattle.micro_cli.specs.declared.answer_files.AnswerFile.{AnswerFile}
 
 -- the files were saved, without a fault or a read, each by one create and one append, and a line is told with a status
-pub record SavesAndTells (files : List SavedFile) (status : Status) (line : List ℕ) (old new : ShelfState) (s : Status) (text : List ℕ) : Type 0 where
+pub record SavesAndTells (files : List SavedFile) (status : Status) (line : List ℕ) (old new : ShelfState) (s : Status) (text : List ℕ)
+    : Type 0 where
   pub saved : IsSaved old new files
   pub each_once : TakesOneEach old new files
   pub no_read : CountsNoRead old new

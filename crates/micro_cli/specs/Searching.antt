@@ -21,7 +21,8 @@ use Rattle.micro_cli.specs.Telling.{refuted_line, undecided_line}
 use Rattle.micro_cli.specs.Saving.{SavesOrCannot}
 
 -- a legal placement was found: its files were made, and became this
-pub record FoundAnswer (out script bytes : List ℕ) (clocks : ℕ) (g : Graph) (old new : ShelfState) (s : Status) (text : List ℕ) : Type 0 where
+pub record FoundAnswer (out script bytes : List ℕ) (clocks : ℕ) (g : Graph) (old new : ShelfState) (s : Status) (text : List ℕ)
+    : Type 0 where
   pub place : List Position
   pub placed : IsPlaced out script bytes clocks g place old new s text
 
@@ -36,7 +37,8 @@ pub record RefutedAnswer (out : List ℕ) (g : Graph) (conflicts : ℕ) (old new
   pub accepted : check (list_of g) (refutation_text (length (clauses_of g)) lines) ≡ checked.Refutes (length lines)
   pub short : length (refutation_text (length (clauses_of g)) lines) ≤ length lines * (12 * (list_of g).vars + 27)
   pub numbered : length (clauses_of g) + length lines < 2 ^ 32
-  pub answer : SavesOrCannot (refuted_files out (refutation_text (length (clauses_of g)) lines)) status.Refuted (refuted_line (length lines)) old new s text
+  pub answer : SavesOrCannot (refuted_files out (refutation_text (length (clauses_of g)) lines)) status.Refuted
+      (refuted_line (length lines)) old new s text
 
 -- The budget was spent on lines that are new, and ended in a clash. Both are saved as `OUT.part` and the budget is
 -- told, or it is told that the file was not saved.
@@ -44,7 +46,8 @@ pub record UndecidedAnswer (out : List ℕ) (g : Graph) (conflicts : ℕ) (old n
   pub lines : List Line
   pub clash : Clash
   pub spent : Spent (list_of g) lines clash conflicts
-  pub answer : SavesOrCannot (undecided_files out (part_text (length (clauses_of g)) lines clash)) status.Undecided (undecided_line conflicts) old new s text
+  pub answer : SavesOrCannot (undecided_files out (part_text (length (clauses_of g)) lines clash)) status.Undecided
+      (undecided_line conflicts) old new s text
 
 -- how the search ended, and what became of that
 abbrev pub SearchEnd : List ℕ → List ℕ → List ℕ → ℕ → ℕ → Graph → ShelfState → ShelfState → Status → List ℕ → Type 0

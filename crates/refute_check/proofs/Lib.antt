@@ -2,9 +2,15 @@ pub mod SignLemmas
 pub mod LookLaws
 pub mod RunLaws
 pub mod DeriveLemmas
-pub mod CheckLemmas
+pub mod KnownLemmas
+pub mod AskLemmas
+pub mod FedLemmas
+pub mod JudgingLemmas
 pub mod NextLemmas
+pub mod CheckLemmas
+pub mod VerdictLemmas
 pub mod TakenLemmas
+pub mod DecidingLemmas
 pub mod RefutationLaws
 pub mod PrintedLemmas
 pub mod SizeLemmas

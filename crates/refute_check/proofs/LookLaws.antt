@@ -45,7 +45,8 @@ look_append held (x ∷ xs) ys l = look_append held xs ys (seen_with x (value_in
 pub unit_seen : (held clause : List ℤ) (z : ℤ) → IsUnit held clause z → look_on held clause False ≡ Unit z
 unfolding look_on
 unit_seen held clause z u =
-    let first : look_on held (u.front ++ z ∷ u.back) False ≡ look_on held (z ∷ u.back) False = look_append held u.front (z ∷ u.back) False ∙ ap (look_on held (z ∷ u.back)) (false_keeps held u.front False u.before) in
+    let first : look_on held (u.front ++ z ∷ u.back) False ≡ look_on held (z ∷ u.back) False = look_append held u.front (z ∷ u.back) False
+    ∙ ap (look_on held (z ∷ u.back)) (false_keeps held u.front False u.before) in
     let next : look_on held (z ∷ u.back) False ≡ look_on held u.back (Unit z) = rw u.unassigned refl in
     ap (λ c. look_on held c False) u.split ∙ first ∙ next ∙ false_keeps held u.back (Unit z) u.after
 
@@ -59,7 +60,8 @@ unfolding look_on
 single_stays held [] y z h = record { same = cc; false_there = false_none held }
 single_stays held (x ∷ xs) y z h = by (value_in x held) refl (λ e. single_stays held xs y z e) h
   where
-    by : (o : Option Bool) → value_in x held ≡ o → (look_on held xs (Unit y) ≡ Unit z → Stays held xs y z) → look_on held xs (seen_with x o (Unit y)) ≡ Unit z → Stays held (x ∷ xs) y z
+    by : (o : Option Bool) → value_in x held ≡ o → (look_on held xs (Unit y) ≡ Unit z → Stays held xs y z)
+        → look_on held xs (seen_with x o (Unit y)) ≡ Unit z → Stays held (x ∷ xs) y z
     by (Some true) v k e = let s = settled_stays held xs in cc
     by (Some false) v k e = let s = k e in record { same = s.same; false_there = false_more held x xs v s.false_there }
     by None v k e = let s = settled_stays held xs in cc
@@ -80,7 +82,8 @@ unfolding look_on
 false_seen held [] h = false_none held
 false_seen held (x ∷ xs) h = by (value_in x held) refl (λ e. false_seen held xs e) h
   where
-    by : (o : Option Bool) → value_in x held ≡ o → (look_on held xs False ≡ False → IsFalse held xs) → look_on held xs (seen_with x o False) ≡ False → IsFalse held (x ∷ xs)
+    by : (o : Option Bool) → value_in x held ≡ o → (look_on held xs False ≡ False → IsFalse held xs)
+        → look_on held xs (seen_with x o False) ≡ False → IsFalse held (x ∷ xs)
     by (Some true) v k e = let s = settled_stays held xs in cc
     by (Some false) v k e = false_more held x xs v (k e)
     by None v k e = absurd (single_not held xs x e)
@@ -101,14 +104,18 @@ unfolding look_on
 single_seen held [] z h = cc
 single_seen held (x ∷ xs) z h = by (value_in x held) refl (λ e. single_seen held xs z e) h
   where
-    by : (o : Option Bool) → value_in x held ≡ o → (look_on held xs False ≡ Unit z → IsUnit held xs z) → look_on held xs (seen_with x o False) ≡ Unit z → IsUnit held (x ∷ xs) z
+    by : (o : Option Bool) → value_in x held ≡ o → (look_on held xs False ≡ Unit z → IsUnit held xs z)
+        → look_on held xs (seen_with x o False) ≡ Unit z → IsUnit held (x ∷ xs) z
     by (Some true) v k e = let s = settled_stays held xs in cc
     by (Some false) v k e = unit_more held x xs z v (k e)
-    by None v k e = let s = single_stays held xs x z e in subst (λ (y : ℤ). IsUnit held (x ∷ xs) y) (sym s.same) (record { front = []; back = xs; split = refl; unassigned = v; before = false_none held; after = s.false_there })
+    by None v k e = let s = single_stays held xs x z e in
+        subst (λ (y : ℤ). IsUnit held (x ∷ xs) y) (sym s.same)
+        (record { front = []; back = xs; split = refl; unassigned = v; before = false_none held; after = s.false_there })
 
 -- the unit literal is one of the clause
 pub unit-in : (P : ℤ → Type 0) (held clause : List ℤ) (z : ℤ) → IsUnit held clause z → All P clause → P z
 unit-in P held clause z u all =
-    let at : get_or clause (length u.front) z ≡ z = ap (λ l. get_or l (length u.front) z) u.split ∙ get_or_at u.front z u.back z (length u.front) refl in
+    let at : get_or clause (length u.front) z ≡ z = ap (λ l. get_or l (length u.front) z) u.split
+    ∙ get_or_at u.front z u.back z (length u.front) refl in
     let lt : length u.front < length clause = omega (arith, ap length u.split, length-append u.front (z ∷ u.back)) in
     subst P at (all (length u.front) z lt)

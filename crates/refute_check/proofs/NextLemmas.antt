@@ -1,63 +1,150 @@
--- What a line that was read says of the list and the reader.
-use Rattle.std.proofs.Common.{◌≡◌, ℕ, ℤ, ◌+◌, ◌≤◌, ◌^◌, Bool, List, [], ◌∷◌, length, take, sym, ap, subst, ◌∙◌, length-append, arith}
+-- What a piece brings to a judge.
+use Rattle.std.proofs.Common.{◌≡◌, ℕ, ℤ, ◌+◌, ◌-◌, ◌*◌, ◌<◌, ◌≤◌, ◌^◌, ◌==◌, Bool, false, List, [], ◌∷◌, ◌++◌, length, map, neg_ℤ, take, Option, Some, None, refl, sym, ap, subst, ◌∙◌, arith, length-append}
+use Rattle.std.specs.Prelude.{All}
+use Rattle.std.proofs.lemmas.List.Elements.{All-append, All-nil}
 use Rattle.clause_base.specs.Clauses.{Clauses}
 use Rattle.clause_base.specs.declared.line.Line.{Line}
 use Rattle.ref_text.specs.Form.{form}
-use Rattle.ref_text.specs.Fault.{line_of}
+use Rattle.ref_text.specs.Fault.{text_fault, line_of, is_empty}
 use Rattle.ref_text.specs.Fits.{IsRight}
-use Rattle.ref_text.specs.Reading as reading
-use Rattle.ref_text.specs.Reading.{Reader, lf_at, fed_of, after_feed}
+use Rattle.ref_text.specs.Reading.{Reader, first, lf_at, with_line, with_bytes}
+use Rattle.ref_text.specs.declared.why.Why.{Why}
 use Rattle.ref_text.specs.declared.events.Event.TheVariants as event
-use Rattle.ref_text.specs.declared.events.Fed.{Fed}
-use Rattle.ref_text.proofs.FeedLemmas.{Tells, fed_tells, fed_line}
 use Rattle.ref_text.proofs.RightLemmas.{text_right}
-use Rattle.refute_check.specs.Check.{with_line}
-use Rattle.refute_check.specs.Next.{IsBefore, Takes}
-use Rattle.refute_check.specs.declared.lines.NextLine.TheVariants as next
+use Rattle.refute_check.specs.Check.{or_hints}
+use Rattle.refute_check.specs.Hints.{judged}
+use Rattle.refute_check.specs.Known.{Known, IsKnown, with_derived}
+use Rattle.refute_check.specs.Held.{Held}
+use Rattle.refute_check.specs.Judging.{Spot, spot_of, fault_at, first_line, Stands}
+use Rattle.refute_check.specs.declared.judge.Judge.{Judge}
+use Rattle.refute_check.proofs.FedLemmas.{Feeds}
+use Rattle.refute_check.proofs.KnownLemmas.{told_none}
+use Rattle.refute_check.proofs.JudgingLemmas.{HasNoLf, all_no_lf}
 
--- a line was read: it is right, and the reader gives it
-pub record IsRead (list : Clauses) (r new : Reader) (rest : List ℕ) (clause : List ℤ) (hints : List ℕ) : Type 0 where
-  pub right : IsRight (length list.clauses + 1) list.vars (record { clause = clause; hints = hints })
-  pub given : record { clause = clause; hints = hints } ≡ line_of (form (take (lf_at rest) rest))
-  pub after : new ≡ reading.with_line r (line_of (form (take (lf_at rest) rest)))
+-- a judge of these parts
+abbrev pub judge_of : Known → Held → Reader → Bool → Judge
+judge_of known signs reader over = record { known = known; signs = signs; reader = reader; over = over }
 
-pub line_read : (list : Clauses) (over : Bool) (r new : Reader) (rest : List ℕ) (fed : Fed) (clause : List ℤ) (hints : List ℕ) →
-    IsBefore list over r → fed ≡ fed_of r.bad r rest → new ≡ after_feed r.bad r rest → fed.event ≡ event.Line →
-    clause ≡ new.last.clause → hints ≡ new.last.hints → IsRead list r new rest clause hints
-line_read list over r new rest fed clause hints before is after line clause_is hints_is =
-    let told : Tells r rest fed.used event.Line = subst (Tells r rest fed.used) line (fed_tells r rest fed before.begun before.bad is) in
-    let now : new ≡ reading.with_line r (line_of (form (take (lf_at rest) rest))) = fed_line r new rest before.begun before.bad after told.0 told.2 in
-    let last : new.last ≡ line_of (form (take (lf_at rest) rest)) = ap (λ (s : Reader). s.last) now in
-    let given : record { clause = clause; hints = hints } ≡ line_of (form (take (lf_at rest) rest)) =
-    ap (λ (zs : List ℤ). record { clause = zs; hints = hints }) (clause_is ∙ ap (λ (k : Line). k.clause) last)
-    ∙ ap (λ (hs : List ℕ). record { clause = (line_of (form (take (lf_at rest) rest))).clause; hints = hs }) (hints_is ∙ ap (λ (k : Line). k.hints) last) in
-    let text = text_right r.number r.vars r.over (take (lf_at rest) rest) told.2 in
-    let P : ℕ → Type 0 = λ n. IsRight n r.vars (line_of (form (take (lf_at rest) rest))) in
-    let Q : ℕ → Type 0 = λ v. IsRight (length list.clauses + 1) v (line_of (form (take (lf_at rest) rest))) in
+-- the reader's answer for a text is that of the list
+text_same : (list : Clauses) (j : Judge) (given : ℕ) (line : List ℕ) → Stands list j given →
+    text_fault (length (list.clauses ++ j.known.derived) + 1)
+    list.vars j.over line ≡ text_fault j.reader.number j.reader.vars j.reader.over line
+text_same list j given line s =
+    let number : length (list.clauses ++ j.known.derived) + 1 ≡ j.reader.number =
+    omega (arith, length-append list.clauses j.known.derived, s.number) in
+    ap (λ (n : ℕ). text_fault n list.vars j.over line) number
+    ∙ ap (λ (v : ℕ). text_fault j.reader.number v j.over line) (sym s.vars)
+    ∙ ap (λ (o : Bool). text_fault j.reader.number j.reader.vars o line) (sym s.over_is)
+
+-- bytes of a line
+pub stands_more : (list : Clauses) (j : Judge) (given : ℕ) (r : Reader) (piece : List ℕ) → Stands list j given
+    → lf_at piece ≡ length piece → r ≡ with_bytes j.reader piece →
+    Stands list (judge_of j.known j.signs r j.over) given
+stands_more list j given r piece s all is = record {
+  known = s.known;
+  signs = s.signs;
+  vars = ap (λ (x : Reader). x.vars) is ∙ s.vars;
+  number = ap (λ (x : Reader). x.number) is ∙ s.number;
+  counted = ap (λ (x : Reader). x.count) is ∙ s.counted;
+  few = s.few;
+  over_is = ap (λ (x : Reader). x.over) is ∙ s.over_is;
+  bad = ap (λ (x : Reader). x.bad) is ∙ s.bad;
+  failed = ap (λ (x : Reader). x.failed) is ∙ s.failed;
+  no_lf = subst (λ (bs : List ℕ). HasNoLf bs) (sym (ap (λ (x : Reader). x.begun) is))
+      (All-append (λ b. (b == 10) ≡ false) j.reader.begun piece s.no_lf (all_no_lf piece all));
+}
+
+-- a line that its text refuses
+pub fault_text : (list : Clauses) (j : Judge) (given : ℕ) (piece : List ℕ) (why : Why) → Stands list j given →
+    text_fault j.reader.number j.reader.vars j.reader.over (j.reader.begun ++ take (lf_at piece) piece) ≡ Some why
+    → fault_at list (spot_of j) (first_line (spot_of j) piece) ≡ Some why
+fault_text list j given piece why s is =
+    ap (or_hints (with_derived list j.known.derived) (line_of (form (first_line (spot_of j) piece))))
+    (text_same list j given (first_line (spot_of j) piece) s ∙ is)
+
+-- a line of right text is judged by its hints
+pub fault_hints : (list : Clauses) (j : Judge) (given : ℕ) (piece : List ℕ) (bad : Option Why) (clause : List ℤ) (hints : List ℕ)
+    → Stands list j given →
+    text_fault j.reader.number j.reader.vars j.reader.over (j.reader.begun ++ take (lf_at piece) piece) ≡ None →
+    record { clause = clause; hints = hints } ≡ line_of (form (first_line (spot_of j) piece)) →
+    bad ≡ judged (list.clauses ++ j.known.derived) (map neg_ℤ clause) hints
+    → fault_at list (spot_of j) (first_line (spot_of j) piece) ≡ bad
+fault_hints list j given piece bad clause hints s right is judged_is =
+    ap (or_hints (with_derived list j.known.derived) (line_of (form (first_line (spot_of j) piece))))
+    (text_same list j given (first_line (spot_of j) piece) s ∙ right)
+    ∙ ap (λ (l : Line). judged (list.clauses ++ j.known.derived) (map neg_ℤ l.clause) l.hints) (sym is)
+    ∙ sym judged_is
+
+-- the line that a reader gives
+pub line_given : (r new : Reader) (line : List ℕ) (clause : List ℤ) (hints : List ℕ) → new ≡ with_line r (line_of (form line))
+    → clause ≡ new.last.clause → hints ≡ new.last.hints →
+    record { clause = clause; hints = hints } ≡ line_of (form line)
+line_given r new line clause hints is clause_is hints_is =
+    let last : new.last ≡ line_of (form line) = ap (λ (s : Reader). s.last) is in
+    ap (λ (zs : List ℤ). let l : Line = record { clause = zs; hints = hints } in l) (clause_is ∙ ap (λ (k : Line). k.clause) last)
+    ∙ ap (λ (hs : List ℕ). let l : Line = record { clause = (line_of (form line)).clause; hints = hs } in l)
+    (hints_is ∙ ap (λ (k : Line). k.hints) last)
+
+-- a line of right text is right
+pub line_right : (list : Clauses) (j : Judge) (given : ℕ) (piece : List ℕ) (clause : List ℤ) (hints : List ℕ) → Stands list j given →
+    text_fault j.reader.number j.reader.vars j.reader.over (j.reader.begun ++ take (lf_at piece) piece) ≡ None →
+    record { clause = clause; hints = hints } ≡ line_of (form (first_line (spot_of j) piece)) →
+    IsRight (length list.clauses + length j.known.derived + 1) list.vars (record { clause = clause; hints = hints })
+line_right list j given piece clause hints s right is =
+    let text = text_right j.reader.number j.reader.vars j.reader.over (first_line (spot_of j) piece) right in
+    let P : ℕ → Type 0 = λ n. IsRight n j.reader.vars (line_of (form (first_line (spot_of j) piece))) in
+    let Q : ℕ → Type 0 =
+    λ v. IsRight (length list.clauses + length j.known.derived + 1) v (line_of (form (first_line (spot_of j) piece))) in
+    subst (IsRight (length list.clauses + length j.known.derived + 1) list.vars) (sym is) (subst Q s.vars (subst P s.number text))
+
+-- after a derived line
+pub stands_line : (list : Clauses) (j : Judge) (given now : ℕ) (known : Known) (signs : Held) (r : Reader) (over : Bool) (clause : List ℤ)
+    (line : List ℕ) → Stands list j given →
+    r ≡ with_line j.reader (line_of (form line)) → IsKnown list known now → signs.vars ≡ list.vars
+    → known.derived ≡ j.known.derived ++ clause ∷ [] → r.number ≤ 2 ^ 32 →
+    over ≡ is_empty (line_of (form line)) → Stands list (judge_of known signs r over) now
+stands_line list j given now known signs r over clause line s is known_is signs_is derived small over_is =
+    let more : length known.derived ≡ length j.known.derived + 1 = ap length derived ∙ length-append j.known.derived (clause ∷ []) in
+    let number : r.number ≡ j.reader.number + 1 = ap (λ (x : Reader). x.number) is in
+    let count : r.count ≡ j.reader.count + 1 = ap (λ (x : Reader). x.count) is in
     record {
-      right = subst (IsRight (length list.clauses + 1) list.vars) (sym given) (subst Q before.vars (subst P before.number text));
-      given = given;
-      after = now;
+      known = known_is;
+      signs = signs_is;
+      vars = ap (λ (x : Reader). x.vars) is ∙ s.vars;
+      number = omega (arith, number, s.number, more);
+      counted = omega (arith, count, s.counted, more);
+      few = omega (arith, number, s.number, more, small);
+      over_is = ap (λ (x : Reader). x.over) is ∙ sym over_is;
+      bad = ap (λ (x : Reader). x.bad) is;
+      failed = ap (λ (x : Reader). x.failed) is ∙ s.failed;
+      no_lf = subst (λ (bs : List ℕ). HasNoLf bs) (sym (ap (λ (x : Reader). x.begun) is)) (All-nil (λ b. (b == 10) ≡ false));
     }
 
--- the list and the reader after a line that is derived
-pub line_takes : (list more : Clauses) (over : Bool) (r new : Reader) (rest : List ℕ) (clause : List ℤ) (hints : List ℕ) (used : ℕ) →
-    IsBefore list over r → IsRead list r new rest clause hints → more ≡ with_line list (record { clause = clause; hints = hints }) →
-    new.number ≤ 2 ^ 32 → Takes list more new rest (next.Line used)
-line_takes list more over r new rest clause hints used before read grown small =
-    let line = line_of (form (take (lf_at rest) rest)) in
-    let list_is : more ≡ with_line list line = grown ∙ ap (with_line list) read.given in
-    let size : length more.clauses ≡ length list.clauses + 1 = ap (λ (l : Clauses). length l.clauses) list_is ∙ length-append list.clauses (line.clause ∷ []) in
-    let number : new.number ≡ r.number + 1 = ap (λ (s : Reader). s.number) read.after in (
-      list_is,
-      record {
-        vars = ap (λ (s : Reader). s.vars) read.after ∙ before.vars ∙ sym (ap (λ (l : Clauses). l.vars) list_is);
-        number = number ∙ ap (λ (n : ℕ). n + 1) (before.number ∙ sym size);
-        over_is = ap (λ (s : Reader). s.over) read.after;
-        begun = ap (λ (s : Reader). s.begun) read.after;
-        bad = ap (λ (s : Reader). s.bad) read.after;
-        failed = ap (λ (s : Reader). s.failed) read.after ∙ before.failed;
-      },
-      ap (λ (s : Reader). s.last) read.after,
-      omega (arith, size, number, before.number, small),
-    )
+-- before the first byte of a text
+pub stands_new : (list : Clauses) (known : Known) (signs : Held) (r : Reader) (given vars len : ℕ) → known.vars ≡ vars
+    → length known.asked ≡ len → All (λ c. c ≡ None) known.asked →
+    known.count ≡ 0 → known.derived ≡ [] → signs ≡ record { vars = vars; held = [] } → r ≡ first (len + 1) vars → vars ≡ list.vars
+    → len ≡ length list.clauses →
+    given < 2 ^ 64 → length list.clauses < 2 ^ 32 - 1 → Stands list (judge_of known signs r false) given
+stands_new list known signs r given vars len vars_is sized none count derived signs_is is same_vars same_len small few =
+    let nothing : length known.derived ≡ 0 = ap length derived in
+    let number : r.number ≡ len + 1 = ap (λ (x : Reader). x.number) is in
+    let counted : r.count ≡ 0 = ap (λ (x : Reader). x.count) is in
+    record {
+      known = record {
+        vars = vars_is ∙ same_vars;
+        sized = sized ∙ same_len;
+        told = told_none known.asked list.clauses none;
+        count_few = omega (arith, count);
+        given_few = omega (arith, count, small);
+      };
+      signs = ap (λ (h : Held). h.vars) signs_is ∙ same_vars;
+      vars = ap (λ (x : Reader). x.vars) is ∙ same_vars;
+      number = omega (arith, number, same_len, nothing);
+      counted = omega (arith, counted, nothing);
+      few = omega (arith, few, nothing);
+      over_is = ap (λ (x : Reader). x.over) is;
+      bad = ap (λ (x : Reader). x.bad) is;
+      failed = ap (λ (x : Reader). x.failed) is;
+      no_lf = subst (λ (bs : List ℕ). HasNoLf bs) (sym (ap (λ (x : Reader). x.begun) is)) (All-nil (λ b. (b == 10) ≡ false));
+    }

@@ -12,19 +12,22 @@ use Rattle.ref_text.specs.Fault.{text_fault, line_of, is_empty}
 use Rattle.ref_text.specs.declared.why.Why.{Why}
 use Rattle.ref_text.proofs.RightLemmas.{fault_passes}
 use Rattle.refute_check.specs.Check.{lines_of, or_hints, line_fault, with_line, or_further, progress, verdict_of, check}
-use Rattle.refute_check.specs.declared.progress.Progress.{Progress}
+use Rattle.refute_check.specs.Check.{Progress}
 use Rattle.refute_check.specs.declared.checked.Checked.TheVariants as checked
 use Rattle.refute_check.proofs.CheckLemmas.{line_derived}
 
 -- a derived line, and lines that are derived behind it
-derived_more : (list : Clauses) (line : Line) (lines : List Line) → Derived list line → AreDerived (with_line list line) lines → AreDerived list (line ∷ lines)
+derived_more : (list : Clauses) (line : Line) (lines : List Line) → Derived list line → AreDerived (with_line list line) lines
+    → AreDerived list (line ∷ lines)
 derived_more list line lines first rest zero l is =
     let same : line ≡ l = cc in
-    let none : list ≡ with_lines list [] = ap (λ (cs : List (List ℤ)). record { vars = list.vars; clauses = cs }) (sym (append-nil list.clauses)) in
+    let none : list ≡ with_lines list [] =
+    ap (λ (cs : List (List ℤ)). record { vars = list.vars; clauses = cs }) (sym (append-nil list.clauses)) in
     subst (λ (k : Clauses). Derived k l) none (subst (λ (x : Line). Derived list x) same first)
 derived_more list line lines first rest (suc k) l is =
     let more : with_lines (with_line list line) (take k lines) ≡ with_lines list (line ∷ take k lines) =
-    ap (λ (cs : List (List ℤ)). record { vars = list.vars; clauses = cs }) (append_assoc list.clauses (line.clause ∷ []) (map clause_of (take k lines))) in
+    ap (λ (cs : List (List ℤ)). record { vars = list.vars; clauses = cs })
+    (append_assoc list.clauses (line.clause ∷ []) (map clause_of (take k lines))) in
     subst (λ (c : Clauses). Derived c l) more (rest k l is)
 
 -- lines of which just the last has no literal
@@ -43,7 +46,8 @@ record AreRead (list : Clauses) (count : ℕ) (over : Bool) (p : Progress) : Typ
   pub stays : over ≡ true → lines ≡ []
   pub ends : over ≡ false → p.over ≡ true → Ends lines
 
-nothing_read : (list : Clauses) (count : ℕ) (over : Bool) (begun : Bool) → AreRead list count over (record { count = count; over = over; bad = None; begun = begun })
+nothing_read : (list : Clauses) (count : ℕ) (over : Bool) (begun : Bool)
+    → AreRead list count over (record { count = count; over = over; bad = None; begun = begun })
 nothing_read list count over begun = record {
   lines = [];
   counted = omega arith;
@@ -55,7 +59,8 @@ nothing_read list count over begun = record {
 not_over : (list : Clauses) (over : Bool) (line : List ℕ) → line_fault list over line ≡ None → over ≡ false
 not_over list over line e = by (text_fault (length list.clauses + 1) list.vars over line) refl e
   where
-    by : (o : Option Why) → text_fault (length list.clauses + 1) list.vars over line ≡ o → or_hints list (line_of (form line)) o ≡ None → over ≡ false
+    by : (o : Option Why) → text_fault (length list.clauses + 1) list.vars over line ≡ o → or_hints list (line_of (form line)) o ≡ None
+        → over ≡ false
     by (Some why) is h = cc
     by None is h = (fault_passes (length list.clauses + 1) list.vars over (form line) is).not_over
 
@@ -66,7 +71,8 @@ no_literal (z ∷ zs) e = absurd (grind (arith, nat_tests))
 some_literal : (clause : List ℤ) → (length clause == 0) ≡ false → clause ≢ []
 some_literal clause e none = let no : (length clause == 0) ≡ true = ap (λ (c : List ℤ). length c == 0) none in both_ways _ e no
 
-full_more : (line : Line) (front : List Line) → line.clause ≢ [] → All (λ l. l.clause ≢ []) front → All (λ l. l.clause ≢ []) (line ∷ front)
+full_more : (line : Line) (front : List Line) → line.clause ≢ [] → All (λ l. l.clause ≢ []) front
+    → All (λ l. l.clause ≢ []) (line ∷ front)
 full_more line front first rest zero d lt = first
 full_more line front first rest (suc k) d lt = rest k d (omega arith)
 
@@ -99,7 +105,8 @@ read_more list count over line p right more =
       ];
     }
 
-are_read : (parts : List (List ℕ)) (list : Clauses) (count : ℕ) (over : Bool) → (progress list count over parts).bad ≡ None → AreRead list count over (progress list count over parts)
+are_read : (parts : List (List ℕ)) (list : Clauses) (count : ℕ) (over : Bool) → (progress list count over parts).bad ≡ None
+    → AreRead list count over (progress list count over parts)
 unfolding progress
 are_read [] list count over good = nothing_read list count over false
 are_read (rest ∷ []) list count over good = nothing_read list count over (not (length rest == 0))
@@ -109,7 +116,8 @@ are_read (line ∷ (next ∷ parts)) list count over good = by (line_fault list 
     further : Progress
     further = progress (with_line list (line_of (form line))) (count + 1) (is_empty (line_of (form line))) (next ∷ parts)
 
-    by : (o : Option Why) → line_fault list over line ≡ o → (further.bad ≡ None → AreRead (with_line list (line_of (form line))) (count + 1) (is_empty (line_of (form line))) further) →
+    by : (o : Option Why) → line_fault list over line ≡ o
+        → (further.bad ≡ None → AreRead (with_line list (line_of (form line))) (count + 1) (is_empty (line_of (form line))) further) →
         (or_further count over o further).bad ≡ None → AreRead list count over (or_further count over o further)
     by (Some why) is more h = cc
     by None is more h = read_more list count over line further is (more h)
@@ -120,13 +128,15 @@ record Refuted (count : ℕ) (over : Bool) (bad : Option Why) (k : ℕ) : Type 0
   pub over_is : over ≡ true
   pub counted : count ≡ k
 
-refuted : (count : ℕ) (over : Bool) (bad : Option Why) (begun : Bool) (k : ℕ) → verdict_of count over bad begun ≡ checked.Refutes k → Refuted count over bad k
+refuted : (count : ℕ) (over : Bool) (bad : Option Why) (begun : Bool) (k : ℕ) → verdict_of count over bad begun ≡ checked.Refutes k
+    → Refuted count over bad k
 refuted count over (Some why) begun k e = cc
 refuted count over None true k e = cc
 refuted count false None false k e = cc
 refuted count true None false k e = record { good = refl; over_is = refl; counted = cc }
 
-pub refutes_text : (list : Clauses) (bytes : List ℕ) (k : ℕ) → check list bytes ≡ checked.Refutes k → (lines : List Line) × (length lines ≡ k) × Refutes list lines
+pub refutes_text : (list : Clauses) (bytes : List ℕ) (k : ℕ) → check list bytes ≡ checked.Refutes k
+    → (lines : List Line) × (length lines ≡ k) × Refutes list lines
 refutes_text list bytes k e =
     let p = progress list 0 false (lines_of bytes) in
     let v = refuted p.count p.over p.bad p.begun k e in

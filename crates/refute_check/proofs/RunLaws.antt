@@ -26,29 +26,46 @@ pub record Runs (clauses : List (List ℤ)) (held : List ℤ) (front : List ℕ)
   pub units : held_after clauses (Some held) front ≡ Some holds
   pub conflict : IsConflict holds clauses last
 
-pub run_splits : (clauses : List (List ℤ)) (held : List ℤ) (front : List ℕ) (last : ℕ) → IsUnitRun clauses held (front ++ last ∷ []) → Runs clauses held front last
+pub run_splits : (clauses : List (List ℤ)) (held : List ℤ) (front : List ℕ) (last : ℕ) → IsUnitRun clauses held (front ++ last ∷ [])
+    → Runs clauses held front last
 unfolding held_after
 run_splits clauses held [] last r = record { holds = held; units = refl; conflict = r }
 run_splits clauses held (h ∷ []) last r =
     let a = r.1 in
-    let step : held_by clauses held h ≡ Some (held ++ r.0 ∷ []) = ap (λ c. held_with held (look_on held c False)) (numbered_is clauses h a.clause a.numbered) ∙ ap (held_with held) (unit_seen held a.clause r.0 a.unit) in
+    let step : held_by clauses held h ≡ Some (held ++ r.0 ∷ []) =
+    ap (λ c. held_with held (look_on held c False)) (numbered_is clauses h a.clause a.numbered)
+    ∙ ap (held_with held) (unit_seen held a.clause r.0 a.unit) in
     let rest = run_splits clauses (held ++ r.0 ∷ []) [] last r.2 in
-    record { holds = rest.holds; units = ap (λ (o : Option (List ℤ)). held_after clauses o []) step ∙ rest.units; conflict = rest.conflict }
+    record {
+      holds = rest.holds;
+      units = ap (λ (o : Option (List ℤ)). held_after clauses o []) step ∙ rest.units;
+      conflict = rest.conflict;
+    }
 run_splits clauses held (h ∷ (g ∷ gs)) last r =
     let a = r.1 in
-    let step : held_by clauses held h ≡ Some (held ++ r.0 ∷ []) = ap (λ c. held_with held (look_on held c False)) (numbered_is clauses h a.clause a.numbered) ∙ ap (held_with held) (unit_seen held a.clause r.0 a.unit) in
+    let step : held_by clauses held h ≡ Some (held ++ r.0 ∷ []) =
+    ap (λ c. held_with held (look_on held c False)) (numbered_is clauses h a.clause a.numbered)
+    ∙ ap (held_with held) (unit_seen held a.clause r.0 a.unit) in
     let rest = run_splits clauses (held ++ r.0 ∷ []) (g ∷ gs) last r.2 in
-    record { holds = rest.holds; units = ap (λ (o : Option (List ℤ)). held_after clauses o (g ∷ gs)) step ∙ rest.units; conflict = rest.conflict }
+    record {
+      holds = rest.holds;
+      units = ap (λ (o : Option (List ℤ)). held_after clauses o (g ∷ gs)) step ∙ rest.units;
+      conflict = rest.conflict;
+    }
 
 -- a run passes the test
-pub run_passes : (clauses : List (List ℤ)) (held : List ℤ) (front : List ℕ) (last : ℕ) → IsUnitRun clauses held (front ++ last ∷ []) → judged_last clauses (held_after clauses (Some held) front) last ≡ None
+pub run_passes : (clauses : List (List ℤ)) (held : List ℤ) (front : List ℕ) (last : ℕ) → IsUnitRun clauses held (front ++ last ∷ [])
+    → judged_last clauses (held_after clauses (Some held) front) last ≡ None
 run_passes clauses held front last r =
     let s = run_splits clauses held front last r in
     let c = s.conflict in
-    let seen : look_on s.holds (clause_at clauses last) False ≡ False = ap (λ (k : List ℤ). look_on s.holds k False) (numbered_is clauses last c.clause c.numbered) ∙ false_keeps s.holds c.clause False c.all_false in
+    let seen : look_on s.holds (clause_at clauses last) False ≡ False =
+    ap (λ (k : List ℤ). look_on s.holds k False) (numbered_is clauses last c.clause c.numbered)
+    ∙ false_keeps s.holds c.clause False c.all_false in
     ap (λ (o : Option (List ℤ)). judged_last clauses o last) s.units ∙ ap last_fault seen
 
-run_step : (cs : List (List ℤ)) (held : List ℤ) (h : ℕ) (z : ℤ) (hs : List ℕ) → Forces held cs h z → IsUnitRun cs (held ++ z ∷ []) hs → IsUnitRun cs held (h ∷ hs)
+run_step : (cs : List (List ℤ)) (held : List ℤ) (h : ℕ) (z : ℤ) (hs : List ℕ) → Forces held cs h z → IsUnitRun cs (held ++ z ∷ []) hs
+    → IsUnitRun cs held (h ∷ hs)
 run_step cs held h z [] a r = absurd r
 run_step cs held h z (g ∷ hs) a r = (z, a, r)
 
@@ -63,17 +80,31 @@ last_false (Unit z) e = cc
 last_false Settled e = cc
 
 -- what passes the test is a run
-pub passed_runs : (clauses : List (List ℤ)) (held : List ℤ) (front : List ℕ) (last : ℕ) → AreHints clauses (front ++ last ∷ []) → judged_last clauses (held_after clauses (Some held) front) last ≡ None → IsUnitRun clauses held (front ++ last ∷ [])
+pub passed_runs : (clauses : List (List ℤ)) (held : List ℤ) (front : List ℕ) (last : ℕ) → AreHints clauses (front ++ last ∷ [])
+    → judged_last clauses (held_after clauses (Some held) front) last ≡ None → IsUnitRun clauses held (front ++ last ∷ [])
 unfolding held_after
 passed_runs clauses held [] last hints e =
     let h = hints 0 last (omega arith) in
-    record { clause = clause_at clauses last; numbered = numbered_at clauses last h.0 h.1; all_false = false_seen held (clause_at clauses last) (last_false (look_on held (clause_at clauses last) False) e) }
+    record {
+      clause = clause_at clauses last;
+      numbered = numbered_at clauses last h.0 h.1;
+      all_false = false_seen held (clause_at clauses last) (last_false (look_on held (clause_at clauses last) False) e);
+    }
 passed_runs clauses held (h ∷ hs) last hints e =
-    by (look_on held (clause_at clauses h) False) refl (λ z. passed_runs clauses (held ++ z ∷ []) hs last (λ k d lt. hints (suc k) d (omega arith))) e
+    by (look_on held (clause_at clauses h) False) refl
+    (λ z. passed_runs clauses (held ++ z ∷ []) hs last (λ k d lt. hints (suc k) d (omega arith))) e
   where
-    by : (look : ClauseStatus) → look_on held (clause_at clauses h) False ≡ look → ((z : ℤ) → judged_last clauses (held_after clauses (Some (held ++ z ∷ [])) hs) last ≡ None → IsUnitRun clauses (held ++ z ∷ []) (hs ++ last ∷ [])) → judged_last clauses (held_after clauses (held_with held look) hs) last ≡ None → IsUnitRun clauses held (h ∷ (hs ++ last ∷ []))
+    by : (look : ClauseStatus) → look_on held (clause_at clauses h) False ≡ look
+        → ((z : ℤ) → judged_last clauses (held_after clauses (Some (held ++ z ∷ [])) hs) last ≡ None
+        → IsUnitRun clauses (held ++ z ∷ []) (hs ++ last ∷ []))
+        → judged_last clauses (held_after clauses (held_with held look) hs) last ≡ None → IsUnitRun clauses held (h ∷ (hs ++ last ∷ []))
     by (Unit z) seen k j =
         let n = hints 0 h (omega arith) in
-        run_step clauses held h z (hs ++ last ∷ []) (record { clause = clause_at clauses h; numbered = numbered_at clauses h n.0 n.1; unit = single_seen held (clause_at clauses h) z seen }) (k z j)
+        run_step clauses held h z (hs ++ last ∷ [])
+        (record {
+          clause = clause_at clauses h;
+          numbered = numbered_at clauses h n.0 n.1;
+          unit = single_seen held (clause_at clauses h) z seen;
+        }) (k z j)
     by Settled seen k j = let s = none_stays clauses hs in cc
     by False seen k j = let s = none_stays clauses hs in cc

@@ -22,16 +22,20 @@ or_none None = refl
 or_none (Some s) = refl
 
 -- the sign after one more literal
-pub sign-push : (v : ℕ) (es : List ℤ) (e : ℤ) → sign_in v (es ++ e ∷ []) ≡ option_or (sign_in v es) (if var_of e == v then Some (is_positive e) else None)
+pub sign-push : (v : ℕ) (es : List ℤ) (e : ℤ)
+    → sign_in v (es ++ e ∷ []) ≡ option_or (sign_in v es) (if var_of e == v then Some (is_positive e) else None)
 sign-push v [] e = refl
 sign-push v (x ∷ es) e = by (var_of x == v) (sign-push v es e)
   where
-    by : (b : Bool) → sign_in v (es ++ e ∷ []) ≡ option_or (sign_in v es) (if var_of e == v then Some (is_positive e) else None) → (if b then Some (is_positive x) else sign_in v (es ++ e ∷ [])) ≡ option_or (if b then Some (is_positive x) else sign_in v es) (if var_of e == v then Some (is_positive e) else None)
+    by : (b : Bool) → sign_in v (es ++ e ∷ []) ≡ option_or (sign_in v es) (if var_of e == v then Some (is_positive e) else None)
+        → (if b then Some (is_positive x) else sign_in v (es ++ e ∷ [])) ≡ option_or (if b then Some (is_positive x) else sign_in v es)
+        (if var_of e == v then Some (is_positive e) else None)
     by true h = refl
     by false h = h
 
 -- one more literal, of a variable with no sign
-pub AreKept-push : (vars : ℕ) (held : List ℤ) (signs : List (Option Bool)) (z : ℤ) → AreKept vars held signs → var_of z ≤ vars → value_in z held ≡ None → AreKept vars (held ++ z ∷ []) (set signs (var_of z) (Some (is_positive z)))
+pub AreKept-push : (vars : ℕ) (held : List ℤ) (signs : List (Option Bool)) (z : ℤ) → AreKept vars held signs → var_of z ≤ vars
+    → value_in z held ≡ None → AreKept vars (held ++ z ∷ []) (set signs (var_of z) (Some (is_positive z)))
 AreKept-push vars held signs z k le value = record {
   few = k.few;
   sized = length-set signs _ _ ∙ k.sized;
@@ -54,10 +58,13 @@ AreKept-push vars held signs z k le value = record {
             let P : ℕ → Type 0 = λ u. get_or (set signs (var_of z) (Some (is_positive z))) u None ≡ Some (is_positive z) in
             let none : sign_in w held ≡ None = ap (λ u. sign_in u held) same ∙ free in
             subst P (sym same) (get_or-set_same signs (var_of z) _ None inside)
-            ∙ sym (sign-push w held z ∙ ap (λ o. option_or o (if var_of z == w then Some (is_positive z) else None)) none ∙ ap (λ b. if b then Some (is_positive z) else None) yes)
+            ∙ sym (sign-push w held z ∙ ap (λ o. option_or o (if var_of z == w then Some (is_positive z) else None)) none
+            ∙ ap (λ b. if b then Some (is_positive z) else None) yes)
 
-        sign_other : (w : ℕ) → w ≤ vars → (w ≡ var_of z → ⊥) → get_or (set signs (var_of z) (Some (is_positive z))) w None ≡ sign_in w (held ++ z ∷ [])
+        sign_other : (w : ℕ) → w ≤ vars → (w ≡ var_of z → ⊥)
+            → get_or (set signs (var_of z) (Some (is_positive z))) w None ≡ sign_in w (held ++ z ∷ [])
         sign_other w le other =
             let no : (var_of z == w) ≡ false = grind (arith, nat_tests) in
             get_or-set_other signs (var_of z) w _ None other ∙ k.told w le
-            ∙ sym (sign-push w held z ∙ ap (λ b. option_or (sign_in w held) (if b then Some (is_positive z) else None)) no ∙ or_none (sign_in w held))
+            ∙ sym (sign-push w held z ∙ ap (λ b. option_or (sign_in w held) (if b then Some (is_positive z) else None)) no
+            ∙ or_none (sign_in w held))

@@ -35,7 +35,8 @@ unfolding IsDistinct
 distinct_vars [] apart = tt
 distinct_vars (z ∷ zs) apart = (
   recursion_from_All (λ v. (var_of z == v) ≡ false) (map var_of zs) (All-map (λ v. (var_of z == v) ≡ false) var_of zs
-      (λ k d lt. let other : var_of z ≢ var_of (get_or zs k d) = apart 0 (suc k) d (omega arith) (omega arith) in grind (arith, nat_tests))),
+      (λ k d lt. let other : var_of z ≢ var_of (get_or zs k d) = apart 0 (suc k) d (omega arith) (omega arith) in
+      grind (arith, nat_tests))),
   distinct_vars zs (pairs_tail (λ a b. var_of a ≢ var_of b) z zs apart),
 )
 
@@ -43,7 +44,8 @@ within_bound : (zs : List ℤ) (vars q : ℕ) → All (λ z. var_of z ≤ vars) 
 within_bound [] vars q all h = cc
 within_bound (z ∷ zs) vars q all h = by (q == var_of z) refl h (λ k. within_bound zs vars q (All-tail (λ z. var_of z ≤ vars) z zs all) k)
   where
-    by : (b : Bool) → (q == var_of z) ≡ b → (b || list_any (λ v. q == v) (map var_of zs)) ≡ true → (list_any (λ v. q == v) (map var_of zs) ≡ true → q ≤ vars) → q ≤ vars
+    by : (b : Bool) → (q == var_of z) ≡ b → (b || list_any (λ v. q == v) (map var_of zs)) ≡ true
+        → (list_any (λ v. q == v) (map var_of zs) ≡ true → q ≤ vars) → q ≤ vars
     by true is k further = let le : var_of z ≤ vars = all 0 z (omega arith) in grind (arith, nat_tests)
     by false is k further = further k
 
@@ -53,7 +55,8 @@ unfolding IsDistinct
 few_apart vars held h =
     let all = 0 ∷ map var_of held in
     let distinct : IsDistinct (λ a b. a == b) all = (
-      recursion_from_All (λ v. (0 == v) ≡ false) (map var_of held) (All-map (λ v. (0 == v) ≡ false) var_of held (λ k d lt. let some = h.above k d lt in grind (arith, nat_tests))),
+      recursion_from_All (λ v. (0 == v) ≡ false) (map var_of held)
+          (All-map (λ v. (0 == v) ≡ false) var_of held (λ k d lt. let some = h.above k d lt in grind (arith, nat_tests))),
       distinct_vars held h.apart,
     ) in
     let le = length-le_from_distinct_below all (vars + 1) distinct below in
@@ -79,20 +82,23 @@ free_apart z (y ∷ ys) none = by (var_of y == var_of z) refl none (λ e. free_a
         All-cons (λ x. var_of x ≢ var_of z) y ys other (further e)
 
 -- one literal more, of a variable with no value
-apart_push : (vars : ℕ) (held : List ℤ) (z : ℤ) → AreApart vars held → 0 < var_of z → var_of z ≤ vars → value_in z held ≡ None → AreApart vars (held ++ z ∷ [])
+apart_push : (vars : ℕ) (held : List ℤ) (z : ℤ) → AreApart vars held → 0 < var_of z → var_of z ≤ vars → value_in z held ≡ None
+    → AreApart vars (held ++ z ∷ [])
 apart_push vars held z h low high free = record {
   above = All-push (λ y. 0 < var_of y) held z h.above low;
   in_range = All-push (λ y. var_of y ≤ vars) held z h.in_range high;
   apart = all_pairs_push (λ a b. var_of a ≢ var_of b) held z h.apart (free_apart z held (sign-free z held free));
 }
 
-clause_valid : (vars : ℕ) (clauses : List (List ℤ)) (number : ℕ) (clause : List ℤ) → All (IsClause vars) clauses → IsNumbered clauses number clause → IsClause vars clause
+clause_valid : (vars : ℕ) (clauses : List (List ℤ)) (number : ℕ) (clause : List ℤ) → All (IsClause vars) clauses
+    → IsNumbered clauses number clause → IsClause vars clause
 clause_valid vars clauses number clause all n =
     let lt = slice_get_within clauses (number - 1) clause n.there in
     subst (IsClause vars) (numbered_is clauses number clause n) (all (number - 1) [] lt)
 
 -- each hint but the last sets a variable that was not set
-run_few : (vars : ℕ) (clauses : List (List ℤ)) → All (IsClause vars) clauses → (held : List ℤ) (hints : List ℕ) → AreApart vars held → IsUnitRun clauses held hints → length held + length hints ≤ vars + 1
+run_few : (vars : ℕ) (clauses : List (List ℤ)) → All (IsClause vars) clauses → (held : List ℤ) (hints : List ℕ) → AreApart vars held
+    → IsUnitRun clauses held hints → length held + length hints ≤ vars + 1
 run_few vars clauses all held [] h r = absurd r
 run_few vars clauses all held (last ∷ []) h r = let le = few_apart vars held h in omega (arith, le)
 run_few vars clauses all held (hint ∷ (next ∷ rest)) h r =
@@ -108,7 +114,8 @@ run_few vars clauses all held (hint ∷ (next ∷ rest)) h r =
 negated_apart : (vars : ℕ) (zs : List ℤ) → AreApart vars zs → AreApart vars (map neg_ℤ zs)
 negated_apart vars zs h = record {
   above = All-map (λ y. 0 < var_of y) neg_ℤ zs (λ k d lt. subst (λ (n : ℕ). 0 < n) (sym (var_neg (get_or zs k d))) (h.above k d lt));
-  in_range = All-map (λ y. var_of y ≤ vars) neg_ℤ zs (λ k d lt. subst (λ (n : ℕ). n ≤ vars) (sym (var_neg (get_or zs k d))) (h.in_range k d lt));
+  in_range = All-map (λ y. var_of y ≤ vars) neg_ℤ zs
+      (λ k d lt. subst (λ (n : ℕ). n ≤ vars) (sym (var_neg (get_or zs k d))) (h.in_range k d lt));
   apart = pairs zs h.apart;
 }
   where
@@ -118,18 +125,22 @@ negated_apart vars zs h = record {
     pairs (z ∷ zs) apart zero (suc j) d lt within =
         All-map (λ y. var_of (neg_ℤ z) ≢ var_of y) neg_ℤ zs
         (λ k e inside. rw (var_neg z, var_neg (get_or zs k e)) (apart 0 (suc k) e (omega arith) (omega arith))) j d (omega arith)
-    pairs (z ∷ zs) apart (suc i) (suc j) d lt within = pairs zs (pairs_tail (λ a b. var_of a ≢ var_of b) z zs apart) i j d (omega arith) (omega arith)
+    pairs (z ∷ zs) apart (suc i) (suc j) d lt within =
+        pairs zs (pairs_tail (λ a b. var_of a ≢ var_of b) z zs apart) i j d (omega arith) (omega arith)
 
 -- a derived line has at most one literal or hint more than there are variables
-derived_few : (list : Clauses) (line : Line) → All (IsClause list.vars) list.clauses → Derived list line → length line.clause + length line.hints ≤ list.vars + 1
+derived_few : (list : Clauses) (line : Line) → All (IsClause list.vars) list.clauses → Derived list line
+    → length line.clause + length line.hints ≤ list.vars + 1
 derived_few list line all derived =
-    let held = negated_apart list.vars line.clause (record { above = derived.above; in_range = derived.in_range; apart = derived.apart }) in
+    let held = negated_apart list.vars line.clause (record { above = derived.above; in_range = derived.in_range; apart = derived.apart })
+    in
     let le = run_few list.vars list.clauses all (map neg_ℤ line.clause) line.hints held derived.run in
     omega (arith, le, length-map line.clause neg_ℤ)
 
 -- a number with its space
 number_size : (n : ℕ) → n < 2 ^ 32 → length (number_word n) ≤ 11
-number_size n small = let le = length-decimal-le 10 n (omega arith) (omega arith) (omega arith) in omega (arith, le, length-append (decimal n) (codes " "))
+number_size n small = let le = length-decimal-le 10 n (omega arith) (omega arith) (omega arith) in
+    omega (arith, le, length-append (decimal n) (codes " "))
 
 literal_size : (z : ℤ) → var_of z < 2 ^ 32 → length (literal_word z) ≤ 12
 literal_size (pos n) small = let le = number_size n small in omega (arith, le)
@@ -154,7 +165,8 @@ pieces_size a b c d e =
     omega (arith, length-append (a ++ b ++ c ++ d) e, length-append (a ++ b ++ c) d, length-append (a ++ b) c, length-append a b)
 
 -- the bytes of a derived line
-line_size : (list : Clauses) (line : Line) → All (IsClause list.vars) list.clauses → Derived list line → list.vars < 2 ^ 32 → length list.clauses + 1 < 2 ^ 32 →
+line_size : (list : Clauses) (line : Line) → All (IsClause list.vars) list.clauses → Derived list line → list.vars < 2 ^ 32
+    → length list.clauses + 1 < 2 ^ 32 →
     length (line_text (length list.clauses + 1) line) ≤ 12 * list.vars + 27
 line_size list line all derived few small =
     let hints = run_hints list.clauses (map neg_ℤ line.clause) line.hints derived.run in
@@ -168,7 +180,8 @@ line_size list line all derived few small =
       literals,
       numbers,
       total,
-      pieces_size (number_word (length list.clauses + 1)) (flat_map literal_word line.clause) (codes "0 ") (flat_map number_word line.hints) (codes "0\n"),
+      pieces_size (number_word (length list.clauses + 1)) (flat_map literal_word line.clause) (codes "0 ")
+          (flat_map number_word line.hints) (codes "0\n"),
     )
 
 clause_more : (list : Clauses) (line : Line) → Derived list line → IsClause list.vars line.clause
@@ -179,7 +192,8 @@ clause_more list line derived = record {
 }
 
 -- the bytes of derived lines
-pub lines_size : (lines : List Line) (list : Clauses) → All (IsClause list.vars) list.clauses → AreDerived list lines → list.vars < 2 ^ 32 → length list.clauses + length lines < 2 ^ 32 →
+pub lines_size : (lines : List Line) (list : Clauses) → All (IsClause list.vars) list.clauses → AreDerived list lines → list.vars < 2 ^ 32
+    → length list.clauses + length lines < 2 ^ 32 →
     length (lines_text (length list.clauses + 1) lines) ≤ length lines * (12 * list.vars + 27)
 unfolding lines_text
 lines_size [] list all derived few small = omega arith
@@ -192,10 +206,17 @@ lines_size (line ∷ lines) list all derived few small =
     let number : length list.clauses + 1 + 1 ≡ length (list.clauses ++ line.clause ∷ []) + 1 = omega (arith, size) in
     let same : length (lines_text (length list.clauses + 1 + 1) lines) ≤ length lines * (12 * list.vars + 27) =
     subst (λ (n : ℕ). length (lines_text n lines) ≤ length lines * (12 * list.vars + 27)) (sym number) rest in
-    omega (arith, first, same, suc-mul (length lines) (12 * list.vars + 27), length-append (line_text (length list.clauses + 1) line) (lines_text (length list.clauses + 1 + 1) lines))
+    omega (
+      arith,
+      first,
+      same,
+      suc-mul (length lines) (12 * list.vars + 27),
+      length-append (line_text (length list.clauses + 1) line) (lines_text (length list.clauses + 1 + 1) lines),
+    )
 
 -- the lines of a search with a budget of a million conflicts, for a program of 128 labels
-pub saved_size : (list : Clauses) (lines : List Line) → All (IsClause list.vars) list.clauses → AreDerived list lines → length list.clauses + length lines < 2 ^ 32 →
+pub saved_size : (list : Clauses) (lines : List Line) → All (IsClause list.vars) list.clauses → AreDerived list lines
+    → length list.clauses + length lines < 2 ^ 32 →
     list.vars ≤ 14656 → length lines ≤ 1000001 → length (refutation_text (length list.clauses) lines) < 2 ^ 39
 saved_size list lines all derived small few count =
     let size = lines_size lines list all derived (omega arith) small in

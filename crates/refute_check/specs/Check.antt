@@ -10,9 +10,19 @@ use Rattle.ref_text.specs.Fault.{text_fault, line_of, is_empty}
 use Rattle.ref_text.specs.declared.why.Why.{Why}
 use Rattle.ref_text.specs.declared.why.Why.TheVariants as why
 use Rattle.refute_check.specs.Hints.{judged}
-use Rattle.refute_check.specs.declared.progress.Progress.{Progress}
 use Rattle.refute_check.specs.declared.checked.Checked.{Checked}
 use Rattle.refute_check.specs.declared.checked.Checked.TheVariants as checked
+
+-- how far the whole lines of a text go
+pub record Progress : Type 0 where
+  -- how many lines were read, each derived
+  pub count : ℕ
+  -- whether the last of them has no literal
+  pub over : Bool
+  -- why the next line is refused, if it is
+  pub bad : Option Why
+  -- whether bytes stand behind the last LF, where no line is refused
+  pub begun : Bool
 
 -- the pieces of a text before, between and behind its LFs: its lines, and what stands behind the last LF
 abbrev pub lines_of : List ℕ → List (List ℕ)
@@ -37,10 +47,14 @@ abbrev pub or_further : ℕ → Bool → Option Why → Progress → Progress
 or_further count over None further = further
 or_further count over (Some why) further = record { count = count; over = over; bad = Some why; begun = false }
 
+-- bytes stand behind the last LF
+abbrev pub has_begun : List ℕ → Bool
+has_begun rest = not (length rest == 0)
+
 -- how far the whole lines of a text go, where so many lines were read before
 unfoldable pub progress : Clauses → ℕ → Bool → List (List ℕ) → Progress
 progress list count over [] = record { count = count; over = over; bad = None; begun = false }
-progress list count over (rest ∷ []) = record { count = count; over = over; bad = None; begun = not (length rest == 0) }
+progress list count over (rest ∷ []) = record { count = count; over = over; bad = None; begun = has_begun rest }
 progress list count over (line ∷ (next ∷ parts)) =
     or_further count over (line_fault list over line)
     (progress (with_line list (line_of (form line))) (count + 1) (is_empty (line_of (form line))) (next ∷ parts))

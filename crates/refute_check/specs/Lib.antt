@@ -1,6 +1,8 @@
 pub mod Held
 pub mod Kept
 pub mod Hints
+pub mod Known
 pub mod Check
-pub mod Next
+pub mod Cost
+pub mod Judging
 pub mod Taken

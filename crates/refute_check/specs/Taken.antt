@@ -1,12 +1,12 @@
 -- The first bytes of a file, up to a limit, and what they decide.
 
-use Rattle.std.specs.Prelude.{ℕ, ◌+◌, ◌<◌, ◌≤◌, ◌≡◌, Bool, true, false, if◌then◌else◌, IsTrue, nat_le, List, length, take, Option, Some, None, Result, Ok, Err}
+use Rattle.std.specs.Prelude.{ℕ, ℤ, ◌+◌, ◌⊎◌, ◌<◌, ◌≤◌, ◌≡◌, Bool, true, false, if◌then◌else◌, IsTrue, nat_le, List, length, take, Option, Some, None, Result, Ok, Err}
 use Rattle.clause_base.specs.Clauses.{Clauses}
 use Rattle.io_base.specs.Loading.{TookMore}
 use Rattle.io_base.specs.Shelf.{ShelfState, CountsTaken}
 use Rattle.ref_text.specs.declared.why.Why.{Why}
-use Rattle.refute_check.specs.Check.{lines_of, progress, check}
-use Rattle.refute_check.specs.declared.progress.Progress.{Progress}
+use Rattle.refute_check.specs.Check.{Progress, lines_of, progress, check}
+use Rattle.refute_check.specs.Cost.{lines_cost}
 use Rattle.refute_check.specs.declared.checked.Checked.{Checked}
 use Rattle.refute_check.specs.declared.checked.Checked.TheVariants as checked
 use Rattle.refute_check.specs.declared.checked.CheckFault.{CheckFault}
@@ -62,9 +62,29 @@ Explains file limit list (Err fault.OutOfMemory) = Unit {0}
 -- first of more
 abbrev pub IsOfBytes : ℕ → Clauses → ShelfState → ShelfState → Result Checked CheckFault → Type 0
 IsOfBytes limit list old new (Ok answer) =
-    (bytes : List ℕ) × (longer : Bool) × (length bytes ≤ limit) × HasTaken limit old new bytes longer × (decided list bytes longer ≡ Some answer)
+    (bytes : List ℕ) × (longer : Bool) × (length bytes ≤ limit) × HasTaken limit old new bytes longer
+    × (decided list bytes longer ≡ Some answer)
 IsOfBytes limit list old new (Err fault.TooLong) =
     (bytes : List ℕ) × (length bytes ≤ limit) × HasTaken limit old new bytes true × (decided list bytes true ≡ None)
 IsOfBytes limit list old new (Err fault.NoFile) = Unit {0}
 IsOfBytes limit list old new (Err fault.Failed) = Unit {0}
 IsOfBytes limit list old new (Err fault.OutOfMemory) = Unit {0}
+
+-- the number of the last line that an answer speaks of
+abbrev pub line_count : Checked → ℕ
+line_count (checked.Refutes count) = count
+line_count (checked.Rejected count why) = count
+line_count (checked.Derived count) = count
+
+-- the lines up to the one of the answer; at a fault all that were begun
+abbrev pub lines_up_to : Result Checked CheckFault → List (List ℕ) → List (List ℕ)
+lines_up_to (Ok answer) lines = take (line_count answer) lines
+lines_up_to (Err fault) lines = lines
+
+-- of these clauses a source gave nothing, or at most those that hints name in the lines of the bytes that were taken, up
+-- to the line in which the answer or the fault came
+abbrev pub AsksWithin : ℕ → List (List ℤ) → ShelfState → ShelfState → List ℕ → ℕ → ℕ → Result Checked CheckFault → Type 0
+AsksWithin limit clauses old new name before after result =
+    (after ≡ before)
+    ⊎ ((bytes : List ℕ) × (longer : Bool) × IsTaken old new name limit bytes longer
+    × (after ≤ before + lines_cost clauses (lines_up_to result (lines_of bytes))))

@@ -2,14 +2,15 @@
 
 ghost use Rattle.std.specs.Prelude.{ℕ, ◌≡◌, ◌≢◌, ◌<◌, ◌≤◌, ◌↔◌, [], length, All, AllPairs, OnOk, IfOk, map, neg_ℤ, Some, None};
 ghost use Rattle.clause_base.specs.Lit.{var_of};
-ghost use Rattle.clause_base.specs.Clauses.{IsClause};
 ghost use Rattle.clause_base.specs.Refutation.{Derived};
+ghost use Rattle.refute_check.specs.Known.{known_clauses, known_list};
 ghost use Rattle.refute_check.specs.Hints as spec;
 ghost use Rattle.refute_check.specs.Hints.{look_on, clause_at, held_by, held_if, held_after, judged, AreHints};
 ghost use Rattle.refute_check.specs.declared.derivation.ClauseStatus.TheVariants as look;
 
+use crate::known_clauses::KnownClauses;
 use crate::signs::Signs;
-use clause_base::{ClauseList, Lit};
+use clause_base::Lit;
 use ref_text::Why;
 use std::alloc::AllocError;
 
@@ -51,23 +52,14 @@ fn look_on(signs: &Signs, clause: &[Lit]) -> ClauseStatus
     seen
 }
 
-// The clause of a hint.
-fn clause_of(list: &ClauseList, hint: u32) -> &[Lit]
-    requires { (0 < hint) × (hint ≤ length list.now.clauses) }
-    ensures clause { result.now ≡ clause_at list.now.clauses hint }
-    ensures valid { IsClause list.now.vars result.now }
-{
-    list.get(hint)
-}
-
 // Whether a hint that is not the last is unit; its literal then holds too.
-fn hold_unit(list: &ClauseList, signs: &mut Signs, hint: u32) -> Result<bool, AllocError>
-    requires vars { signs.old.vars ≡ list.now.vars }
-    requires hint { (0 < hint) × (hint ≤ length list.now.clauses) }
+fn hold_unit(known: &KnownClauses, signs: &mut Signs, hint: u32) -> Result<bool, AllocError>
+    requires vars { signs.old.vars ≡ known.now.vars }
+    requires hint { (0 < hint) × (hint ≤ length (known_clauses known.now)) }
     ensures vars { signs.new.vars ≡ signs.old.vars }
-    ensures step { IfOk result (λ unit. held_by list.now.clauses signs.old.held hint ≡ held_if unit signs.new.held) }
+    ensures step { IfOk result (λ unit. held_by (known_clauses known.now) signs.old.held hint ≡ held_if unit signs.new.held) }
 {
-    match look_on(signs, clause_of(list, hint)) {
+    match look_on(signs, known.get(hint)) {
         ClauseStatus::Unit(lit) => {
             signs.hold(lit)?;
             Ok(true)
@@ -79,14 +71,14 @@ fn hold_unit(list: &ClauseList, signs: &mut Signs, hint: u32) -> Result<bool, Al
 
 // Whether the hints before the last are unit one after another; their literals then hold too.
 #[tactic(auto, unfolding(crate::specs::Hints::held_after))]
-fn hold_units(list: &ClauseList, signs: &mut Signs, hints: &[u32]) -> Result<bool, AllocError>
-    requires vars { signs.old.vars ≡ list.now.vars }
-    requires hints { AreHints list.now.clauses hints.now }
+fn hold_units(known: &KnownClauses, signs: &mut Signs, hints: &[u32]) -> Result<bool, AllocError>
+    requires vars { signs.old.vars ≡ known.now.vars }
+    requires hints { AreHints (known_clauses known.now) hints.now }
     ensures vars { signs.new.vars ≡ signs.old.vars }
-    ensures steps { IfOk result (λ units. held_after list.now.clauses (Some signs.old.held) hints.now ≡ held_if units signs.new.held) }
+    ensures steps { IfOk result (λ units. held_after (known_clauses known.now) (Some signs.old.held) hints.now ≡ held_if units signs.new.held) }
 {
     for hint in hints {
-        if !hold_unit(list, signs, *hint)? {
+        if !hold_unit(known, signs, *hint)? {
             return Ok(false);
         }
     }
@@ -94,18 +86,22 @@ fn hold_units(list: &ClauseList, signs: &mut Signs, hints: &[u32]) -> Result<boo
 }
 
 // Why the hints do not lead to a conflict, or None where they do.
-fn run_hints(list: &ClauseList, signs: &mut Signs, hints: &[u32]) -> Result<Option<Why>, AllocError>
-    requires vars { signs.old.vars ≡ list.now.vars }
+fn run_hints(
+    known: &KnownClauses,
+    signs: &mut Signs,
+    hints: &[u32],
+) -> Result<Option<Why>, AllocError>
+    requires vars { signs.old.vars ≡ known.now.vars }
     requires some { 0 < length hints.now }
-    requires hints { AreHints list.now.clauses hints.now }
+    requires hints { AreHints (known_clauses known.now) hints.now }
     ensures vars { signs.new.vars ≡ signs.old.vars }
-    ensures judged { IfOk result (λ fault. fault ≡ judged list.now.clauses signs.old.held hints.now) }
+    ensures judged { IfOk result (λ fault. fault ≡ judged (known_clauses known.now) signs.old.held hints.now) }
 {
     let last = hints.len() - 1;
-    if !hold_units(list, signs, &hints[..last])? {
+    if !hold_units(known, signs, &hints[..last])? {
         return Ok(Some(Why::NotUnit));
     }
-    match look_on(signs, clause_of(list, hints[last])) {
+    match look_on(signs, known.get(hints[last])) {
         ClauseStatus::False => Ok(None),
         ClauseStatus::Unit(_) => Ok(Some(Why::NotFalse)),
         ClauseStatus::Settled => Ok(Some(Why::NotFalse)),
@@ -126,25 +122,25 @@ fn hold_negated(signs: &mut Signs, clause: &[Lit]) -> Result<(), AllocError>
     Ok(())
 }
 
-/// Why a line is not derived, or None where it is. Its literals are of the list's variables, no variable comes
+/// Why a line is not derived, or None where it is. Its literals are of the known clauses' variables, no variable comes
 /// twice, and its hints, at least one, are numbers of clauses.
 pub(crate) fn derive_line(
-    list: &ClauseList,
+    known: &KnownClauses,
     signs: &mut Signs,
     clause: &[Lit],
     hints: &[u32],
 ) -> Result<Option<Why>, AllocError>
-    requires vars { signs.old.vars ≡ list.now.vars }
+    requires vars { signs.old.vars ≡ known.now.vars }
     requires above { All (λ z. 0 < var_of z) clause.now }
-    requires in_range { All (λ z. var_of z ≤ list.now.vars) clause.now }
+    requires in_range { All (λ z. var_of z ≤ known.now.vars) clause.now }
     requires apart { AllPairs (λ a b. var_of a ≢ var_of b) clause.now }
     requires some { 0 < length hints.now }
-    requires hints { AreHints list.now.clauses hints.now }
+    requires hints { AreHints (known_clauses known.now) hints.now }
     ensures vars { signs.new.vars ≡ signs.old.vars }
-    ensures exact { IfOk result (λ fault. fault ≡ judged list.now.clauses (map neg_ℤ clause.now) hints.now) }
-    ensures derived { IfOk result (λ fault. (fault ≡ None) ↔ Derived list.now (record { clause = clause.now; hints = hints.now })) }
+    ensures exact { IfOk result (λ fault. fault ≡ judged (known_clauses known.now) (map neg_ℤ clause.now) hints.now) }
+    ensures derived { IfOk result (λ fault. (fault ≡ None) ↔ Derived (known_list known.now) (record { clause = clause.now; hints = hints.now })) }
 {
     signs.clear();
     hold_negated(signs, clause)?;
-    run_hints(list, signs, hints)
+    run_hints(known, signs, hints)
 }

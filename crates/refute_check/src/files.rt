@@ -1,23 +1,24 @@
 //! Checks the file of a refutation.
 
-ghost use Rattle.std.specs.Prelude.{ℕ, ◌≡◌, ◌≤◌, ◌<◌, ◌+◌, ◌-◌, ◌^◌, List, length, IsTrue, IfOk, IsErrOf, OnErr, Err, Some, None, true, ◌⊎◌};
+ghost use Rattle.std.specs.Prelude.{ℕ, ◌≡◌, ◌≤◌, ◌<◌, ◌+◌, ◌-◌, ◌^◌, Bool, List, length, IsTrue, IfOk, IsErrOf, Some, None, true, ◌⊎◌};
 ghost use Rattle.io_base.specs.Causes.{Rose};
 ghost use Rattle.io_base.specs.Shelf.{GoesOn};
 ghost use Rattle.io_base.specs.Loading.{TookMore};
 ghost use Rattle.mcu_jumps.specs.Position.{Position};
 ghost use Rattle.flow_graph.specs.Graph.{graph_of};
 ghost use Rattle.place_model.specs.Legal.{IsLegal};
-ghost use Rattle.placement_clauses.specs.Truth.{AllHold, truth_in};
-ghost use Rattle.placement_clauses.specs.Meaning.{meaning};
+ghost use Rattle.placement_clauses.specs.Truth.{AllHold};
 ghost use Rattle.clause_encode.specs.PlacementList.{list_of};
-ghost use Rattle.refute_check.specs.Taken.{Explains, IsOfBytes, decided};
+ghost use Rattle.refute_check.specs.Judging.{spot_of, at_start, Stands};
+ghost use Rattle.refute_check.specs.Taken.{AsksWithin, Explains, IsOfBytes, decided, lines_up_to};
+ghost use Rattle.refute_check.specs.Check.{lines_of};
+ghost use Rattle.refute_check.specs.Cost.{lines_cost};
 ghost use Rattle.refute_check.specs.declared.checked.Checked.TheVariants as checked;
 
-use crate::lines::judge_lines;
+use crate::judge::Judge;
 use crate::taking::{Taken, take_file};
 use crate::{CheckFault, Checked};
-use clause_base::ClauseList;
-use clause_encode::encode;
+use clause_encode::{ClauseSource, ProgramSource};
 use flow_graph::Program;
 use io_base::Shelf;
 use std::alloc::Global;
@@ -70,44 +71,117 @@ pub fn check_ref<S: Shelf>(
     ensures same { (S.state shelf.new).file ≡ (S.state shelf.old).file }
     ensures goes_on { GoesOn (S.state shelf.old) (S.state shelf.new) }
 {
-    let list = program_list(alloc, program)?;
-    let taken = take_file(alloc, shelf, name, LIMIT)?;
-    decide(alloc, list, &taken)
+    let mut source = ProgramSource::new(program);
+    if source.len() == u32::MAX {
+        return Err(CheckFault::OutOfMemory);
+    }
+    check_lines(alloc, &mut source, shelf, name)
 }
 
-// The placement clauses of a program, and room for the number of one line more.
-fn program_list(alloc: Global, program: &Program) -> Result<ClauseList, CheckFault>
-    ensures list { IfOk result (λ list. list ≡ list_of (graph_of program.now)) }
-    ensures sound { (place : List Position) → IsLegal (graph_of program.now) place → IfOk result (λ list. AllHold (truth_in (meaning (graph_of program.now) place)) list.clauses) }
-    ensures few { IfOk result (λ list. length list.clauses < 2 ^ 32 - 1) }
-    ensures no_memory { OnErr result (result ≡ Err CheckFault.OutOfMemory) }
+/// Checks the file `name` as a refutation of a source's clauses.
+///
+/// The answers and their causes are those of `check_ref`. The source is asked for just the clauses that hints name, for
+/// each at most once.
+pub fn check_lines<S: Shelf, P: ClauseSource>(
+    alloc: Global,
+    source: &mut P,
+    shelf: &mut S,
+    name: &str,
+) -> Result<Checked, CheckFault>
+    requires name { length name.now ≤ 220 }
+    requires given { P.given source.old < 2 ^ 64 }
+    requires len { length (P.list source.old).clauses < 2 ^ 32 - 1 }
+    requires vars { (P.list source.old).vars < 2 ^ 31 }
+
+    // Where the text refutes the source's clauses, no values make them true.
+    ensures refuted { IfOk result (λ answer. (k : ℕ) → answer ≡ checked.Refutes k →
+        (values : ℕ → Bool) → AllHold values (P.list source.old).clauses → ⊥) }
+
+    // What a shelf that tells its files says of the answer.
+    ensures told { IsTrue (S.state shelf.old).tells →
+        Explains ((S.state shelf.old).file name.now) (2 ^ 43) (P.list source.old) result }
+
+    // What the source gave.
+    ensures asks { AsksWithin (2 ^ 43) (P.list source.old).clauses (S.state shelf.old) (S.state shelf.new) name.now (P.given source.old) (P.given source.new) result }
+    ensures list { P.list source.new ≡ P.list source.old }
+
+    // What holds over every shelf.
+    ensures of_bytes { IsOfBytes (2 ^ 43) (P.list source.old) (S.state shelf.old) (S.state shelf.new) result }
+    ensures failed { IsErrOf result CheckFault.Failed →
+        Rose (S.state shelf.old).faults (S.state shelf.new).faults }
+    ensures failed_name { IsErrOf result CheckFault.Failed →
+        (S.state shelf.new).last_failed ≡ name.now }
+    ensures no_file { IsErrOf result CheckFault.NoFile →
+        Rose (S.state shelf.old).absent (S.state shelf.new).absent }
+    ensures absent { (S.state shelf.old).absent < (S.state shelf.new).absent →
+        IsErrOf result CheckFault.NoFile }
+    ensures too_long { IsErrOf result CheckFault.TooLong →
+        TookMore (S.state shelf.old) (S.state shelf.new) (2 ^ 43) }
+    ensures failed_within { IsErrOf result CheckFault.Failed →
+        (S.state shelf.new).taken - (S.state shelf.old).taken ≤ 2 ^ 43 }
+    ensures absent_within { IsErrOf result CheckFault.NoFile →
+        (S.state shelf.new).taken - (S.state shelf.old).taken ≤ 2 ^ 43 }
+
+    // How the shelf is left.
+    ensures at_most { (S.state shelf.new).taken ≤ (S.state shelf.old).taken + 2 ^ 43 + 1 }
+    ensures kept { IsErrOf result CheckFault.Failed
+        ⊎ ((S.state shelf.new).last_failed ≡ (S.state shelf.old).last_failed) }
+    ensures same { (S.state shelf.new).file ≡ (S.state shelf.old).file }
+    ensures goes_on { GoesOn (S.state shelf.old) (S.state shelf.new) }
 {
-    match encode(alloc, program) {
-        Err(_) => Err(CheckFault::OutOfMemory),
-        Ok(list) => {
-            if list.len() == u32::MAX {
-                return Err(CheckFault::OutOfMemory);
-            }
-            Ok(list)
-        }
-    }
+    let taken = take_file(alloc, shelf, name, LIMIT)?;
+    decide(alloc, source, &taken)
 }
 
 // What the first bytes of a file decide.
-fn decide(alloc: Global, list: ClauseList, taken: &Taken) -> Result<Checked, CheckFault>
-    requires { length list.clauses < 2 ^ 32 - 1 }
-    ensures told { IfOk result (λ answer. decided list taken.now.bytes.items taken.now.longer ≡ Some answer) }
+fn decide<P: ClauseSource>(
+    alloc: Global,
+    source: &mut P,
+    taken: &Taken,
+) -> Result<Checked, CheckFault>
+    requires given { P.given source.old < 2 ^ 64 }
+    requires len { length (P.list source.old).clauses < 2 ^ 32 - 1 }
+    requires vars { (P.list source.old).vars < 2 ^ 31 }
+    ensures list { P.list source.new ≡ P.list source.old }
+    ensures told { IfOk result (λ answer. decided (P.list source.old) taken.now.bytes.items taken.now.longer ≡ Some answer) }
+    ensures asks { P.given source.new ≤ P.given source.old + lines_cost (P.list source.old).clauses (lines_up_to result (lines_of taken.now.bytes.items)) }
     ensures too_long { IsErrOf result CheckFault.TooLong →
-        (taken.now.longer ≡ true) × (decided list taken.now.bytes.items taken.now.longer ≡ None) }
+        (taken.now.longer ≡ true) × (decided (P.list source.old) taken.now.bytes.items taken.now.longer ≡ None) }
     ensures no_fault { IsErrOf result CheckFault.Failed → ⊥ }
     ensures no_absence { IsErrOf result CheckFault.NoFile → ⊥ }
 {
-    let progress = judge_lines(alloc, list, &taken.bytes).map_err(|_| CheckFault::OutOfMemory)?;
-    if !taken.longer {
-        return Ok(progress.verdict());
+    match Judge::new(alloc, source) {
+        Err(_) => Err(CheckFault::OutOfMemory),
+        Ok(judge) => decide_by(alloc, source, judge, taken),
     }
-    match progress.bad {
-        Some(why) => Ok(Checked::Rejected(progress.count + 1, why)),
-        None => Err(CheckFault::TooLong),
+}
+
+// The same by a judge before the first byte.
+fn decide_by<P: ClauseSource>(
+    alloc: Global,
+    source: &mut P,
+    mut judge: Judge,
+    taken: &Taken,
+) -> Result<Checked, CheckFault>
+    requires stands { Stands (P.list source.old) judge (P.given source.old) }
+    requires start { spot_of judge ≡ at_start }
+    ensures list { P.list source.new ≡ P.list source.old }
+    ensures told { IfOk result (λ answer. decided (P.list source.old) taken.now.bytes.items taken.now.longer ≡ Some answer) }
+    ensures asks { P.given source.new ≤ P.given source.old + lines_cost (P.list source.old).clauses (lines_up_to result (lines_of taken.now.bytes.items)) }
+    ensures too_long { IsErrOf result CheckFault.TooLong →
+        (taken.now.longer ≡ true) × (decided (P.list source.old) taken.now.bytes.items taken.now.longer ≡ None) }
+    ensures no_fault { IsErrOf result CheckFault.Failed → ⊥ }
+    ensures no_absence { IsErrOf result CheckFault.NoFile → ⊥ }
+{
+    match judge.take(alloc, source, &taken.bytes) {
+        Err(_) => Err(CheckFault::OutOfMemory),
+        Ok(Some(why)) => Ok(Checked::Rejected(judge.lines() + 1, why)),
+        Ok(None) => {
+            if taken.longer {
+                Err(CheckFault::TooLong)
+            } else {
+                Ok(judge.verdict())
+            }
+        }
     }
 }

@@ -8,17 +8,19 @@
 //! Contracts: `check_ref`, `check_bytes`, `refuting_text_is_a_refutation`.
 #![tactic(auto)]
 
+mod asking;
 mod checked;
 mod derivation;
 mod files;
+mod judge;
+mod known_clauses;
 mod laws;
 mod lines;
-mod progress;
 mod signs;
 mod taking;
 
 pub use checked::{CheckFault, Checked};
-pub use files::check_ref;
+pub use files::{check_lines, check_ref};
 pub use laws::{
     printed_refutations_are_taken, refutation_texts_are_short, refuting_text_is_a_refutation,
 };

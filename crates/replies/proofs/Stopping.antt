@@ -10,7 +10,8 @@ use Rattle.replies.specs.declared.reply.Stop.{Stop}
 use Rattle.replies.specs.declared.reply.Stop.TheVariants as stop
 
 -- where each answer of one kind is of another kind, what stops by the one stops by the other
-pub StopsBy-map : (P Q : Status → List ℕ → Type 0) → ((s : Status) (text : List ℕ) → P s text → Q s text) → (x : Stop) → StopsBy P x → StopsBy Q x
+pub StopsBy-map : (P Q : Status → List ℕ → Type 0) → ((s : Status) (text : List ℕ) → P s text → Q s text) → (x : Stop) → StopsBy P x
+    → StopsBy Q x
 StopsBy-map P Q is (stop.Reply reply) by = is reply.status reply.text.items by
 StopsBy-map P Q is stop.OutOfMemory by = by
 
@@ -38,7 +39,8 @@ said_end replies (Ok reply) old new result comes said =
 said_end replies (Err x) old new result comes said = said_stop replies x old new result comes said
 
 -- where each answer of one kind is of another kind, a call that ends with the one ends with the other
-pub Ends-map : (P Q : Status → List ℕ → Type 0) → ((s : Status) (text : List ℕ) → P s text → Q s text) → (old new : SinkState) (result : Status)
+pub Ends-map : (P Q : Status → List ℕ → Type 0) → ((s : Status) (text : List ℕ) → P s text → Q s text)
+    → (old new : SinkState) (result : Status)
     → Ends P old new result → Ends Q old new result
 Ends-map P Q is old new result (inl said) = inl (said.0, is result said.0 said.1, said.2)
 Ends-map P Q is old new result (inr failed) =

@@ -20,7 +20,8 @@ Says s text old new result =
 abbrev pub Ends : (Status → List ℕ → Type 0) → SinkState → SinkState → Status → Type 0
 Ends answer old new result =
     ((text : List ℕ) × answer result text × Adds old new text)
-    ⊎ ((result ≡ status.SinkFault) × Rose old.faults new.faults × ((s : Status) × (text : List ℕ) × answer s text × AddsPrefix old new text))
+    ⊎ ((result ≡ status.SinkFault) × Rose old.faults new.faults
+    × ((s : Status) × (text : List ℕ) × answer s text × AddsPrefix old new text))
 
 -- a reply of this kind, or that memory was refused
 abbrev pub OrNoMemory : (Status → List ℕ → Type 0) → Status → List ℕ → Type 0

@@ -18,19 +18,24 @@ returns-in-Ok-clause-ends g c =
     let new = g.S.Shelf.state c.save_files.new.shelf in
     let P : List SavedFile → Type 0 = λ fs. PlacesFiles asked.out.now (graph_of c.args.program.now) c.args.placement.now fs in
     Ends-map (UnlessUnsaved old new (FilesAnswer asked.out.now asked.script.now c.args.script_bytes.now asked.clocks files old new))
-    (PlacedAnswer asked.out.now asked.script.now c.args.script_bytes.now asked.clocks (graph_of c.args.program.now) c.args.placement.now old new)
-    (placed_answer asked.out.now asked.script.now c.args.script_bytes.now asked.clocks (graph_of c.args.program.now) c.args.placement.now files old new (subst P (sym c.deref.ensures.value) c.in-Ok.ensures.files))
+    (PlacedAnswer asked.out.now asked.script.now c.args.script_bytes.now asked.clocks (graph_of c.args.program.now)
+    c.args.placement.now old new)
+    (placed_answer asked.out.now asked.script.now c.args.script_bytes.now asked.clocks (graph_of c.args.program.now)
+    c.args.placement.now files old new (subst P (sym c.deref.ensures.value) c.in-Ok.ensures.files))
     (g.K.Sink.state c.args.out.now) (g.K.Sink.state c.save_files.new.out) c.save_files.result c.save_files.ensures.ends
 
 pub returns-in-Ok-clause-others : goal.returns-in-Ok-clause-others
 returns-in-Ok-clause-others g c =
     let P : List SavedFile → Type 0 = λ fs. PlacesFiles c.args.asked.out.now (graph_of c.args.program.now) c.args.placement.now fs in
-    others_stay c.args.asked.out.now (graph_of c.args.program.now) c.args.placement.now c.deref.result.now (g.S.Shelf.state c.args.shelf.now) (g.S.Shelf.state c.save_files.new.shelf)
+    others_stay c.args.asked.out.now (graph_of c.args.program.now) c.args.placement.now c.deref.result.now
+    (g.S.Shelf.state c.args.shelf.now) (g.S.Shelf.state c.save_files.new.shelf)
     (subst P (sym c.deref.ensures.value) c.in-Ok.ensures.files) c.save_files.ensures.others
 
 pub returns-in-Err-clause-ends : goal.returns-in-Err-clause-ends
 returns-in-Err-clause-ends g c =
     let asked = c.args.asked in
     let old = g.S.Shelf.state c.args.shelf.now in
-    says_ends (PlacedAnswer asked.out.now asked.script.now c.args.script_bytes.now asked.clocks (graph_of c.args.program.now) c.args.placement.now old old)
-    status.NoMemory no_memory (g.K.Sink.state c.args.out.now) (g.K.Sink.state c.say_no_memory.new.out) c.say_no_memory.result (inl (record { status_is = refl; text_is = refl; same = refl })) c.say_no_memory.ensures.says
+    says_ends (PlacedAnswer asked.out.now asked.script.now c.args.script_bytes.now asked.clocks (graph_of c.args.program.now)
+    c.args.placement.now old old)
+    status.NoMemory no_memory (g.K.Sink.state c.args.out.now) (g.K.Sink.state c.say_no_memory.new.out) c.say_no_memory.result
+    (inl (record { status_is = refl; text_is = refl; same = refl })) c.say_no_memory.ensures.says

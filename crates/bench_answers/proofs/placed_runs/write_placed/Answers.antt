@@ -11,4 +11,5 @@ returns-in-Ok-clause-ends g c =
 pub returns-in-Err-clause-ends : goal.returns-in-Err-clause-ends
 returns-in-Err-clause-ends g c =
     placed_failed (declaration_of c.args.saved.now.decl) c.args.saved.now.words c.args.script.now c.args.clocks
-    (g.K.Sink.state c.args.out.now) (g.K.Sink.state c.put_all.new.sink) c.requires.no_bad_shift c.in-Err.ensures.cause c.in-Err.ensures.err
+    (g.K.Sink.state c.args.out.now) (g.K.Sink.state c.put_all.new.sink)
+    c.requires.no_bad_shift c.in-Err.ensures.cause c.in-Err.ensures.err

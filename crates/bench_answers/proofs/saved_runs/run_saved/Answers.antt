@@ -15,7 +15,9 @@ returns-in-Ok-clause-ends g c =
 
 pub returns-in-Err-clause-ends : goal.returns-in-Err-clause-ends
 returns-in-Err-clause-ends g c =
-    stop_replies (BenchInputsReply c.args.name.now c.args.script.now (g.S.Shelf.state c.args.shelf.now) (g.S.Shelf.state c.load_bench.new.shelf))
+    stop_replies (BenchInputsReply c.args.name.now c.args.script.now (g.S.Shelf.state c.args.shelf.now)
+    (g.S.Shelf.state c.load_bench.new.shelf))
     (RunReply c.args.name.now c.args.script.now c.args.clocks (g.S.Shelf.state c.args.shelf.now) (g.S.Shelf.state c.load_bench.new.shelf))
     (λ s text reply. inl reply)
-    c.in-Err.stop (g.K.Sink.state c.args.out.now) (g.K.Sink.state c.say_stop.new.out) c.say_stop.result c.in-Err.ensures.step c.say_stop.ensures.says
+    c.in-Err.stop (g.K.Sink.state c.args.out.now) (g.K.Sink.state c.say_stop.new.out)
+    c.say_stop.result c.in-Err.ensures.step c.say_stop.ensures.says

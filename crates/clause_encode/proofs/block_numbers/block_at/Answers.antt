@@ -11,7 +11,8 @@ returns-then-number-labels-clause-clauses c =
     let g = graph_of c.args.program.now in
     let n = length g.instrs in
     let labels = c.from-labels.ensures ∙ c.len.ensures in
-    sym (joined-front n c.from-labels.result c.args.number cell_clauses (joined n (apart_from_earlier n) (given_block g)) labels c.if-number-labels.true)
+    sym (joined-front n c.from-labels.result c.args.number cell_clauses (joined n (apart_from_earlier n) (given_block g))
+    labels c.if-number-labels.true)
 
 pub returns-then-left-labels-clause-clauses : goal.returns-then-left-labels-clause-clauses
 returns-then-left-labels-clause-clauses c =
@@ -19,7 +20,8 @@ returns-then-left-labels-clause-clauses c =
     let n = length g.instrs in
     let labels = c.from-labels.ensures ∙ c.len.ensures in
     let left = c.args.number - c.from-labels.result in
-    sym (joined-back n c.from-labels.result c.args.number cell_clauses (joined n (apart_from_earlier n) (given_block g)) labels c.if-number-labels.false
+    sym (joined-back n c.from-labels.result c.args.number cell_clauses (joined n (apart_from_earlier n) (given_block g))
+    labels c.if-number-labels.false
     ∙ joined-front n c.from-labels.result left (apart_from_earlier n) (given_block g) labels c.if-left-labels.true)
 
 pub returns-else-left-labels-clause-clauses : goal.returns-else-left-labels-clause-clauses
@@ -29,5 +31,6 @@ returns-else-left-labels-clause-clauses c =
     let labels = c.from-labels.ensures ∙ c.len.ensures in
     let left = c.args.number - c.from-labels.result in
     c.given_block_at.ensures.clauses
-    ∙ sym (joined-back n c.from-labels.result c.args.number cell_clauses (joined n (apart_from_earlier n) (given_block g)) labels c.if-number-labels.false
+    ∙ sym (joined-back n c.from-labels.result c.args.number cell_clauses (joined n (apart_from_earlier n) (given_block g))
+    labels c.if-number-labels.false
     ∙ joined-back n c.from-labels.result left (apart_from_earlier n) (given_block g) labels c.if-left-labels.false)

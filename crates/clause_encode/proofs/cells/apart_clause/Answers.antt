@@ -13,5 +13,6 @@ returns c =
     let split : earlier * 48 + place ≡ c.args.place = omega arith in
     at_piece (apart_from_earlier c.args.labels c.args.label) (apart_clauses c.args.labels c.args.label earlier) c.args.place place _
     (ap (slice_get (apart_from_earlier c.args.labels c.args.label)) (sym split)
-    ∙ slice_get-blocks 48 c.args.label (apart_clauses c.args.labels c.args.label) earlier place (λ i lt. length-apart c.args.labels c.args.label i) (omega arith) (omega arith))
+    ∙ slice_get-blocks 48 c.args.label (apart_clauses c.args.labels c.args.label) earlier place
+    (λ i lt. length-apart c.args.labels c.args.label i) (omega arith) (omega arith))
     c.pair_clause.ensures

@@ -9,7 +9,8 @@ use Rattle.clause_encode.proofs.PlaceLemmas.{at_lits}
 use Rattle.clause_encode.proofs.cells.no_two_clause.Goals as goal
 
 pub loop-earlier-init : goal.loop-earlier-init
-loop-earlier-init c = let e : length (upto 0 (not_with_later c.args.count c.args.first)) ≡ 0 = ap length (upto-none (not_with_later c.args.count c.args.first)) in omega arith
+loop-earlier-init c = let e : length (upto 0 (not_with_later c.args.count c.args.first)) ≡ 0 =
+    ap length (upto-none (not_with_later c.args.count c.args.first)) in omega arith
 
 pub returns-then-left-block : goal.returns-then-left-block
 returns-then-left-block c =
@@ -23,13 +24,16 @@ returns-then-left-block c =
 pub loop-earlier-preserved : goal.loop-earlier-preserved
 loop-earlier-preserved c =
     let f = not_with_later c.args.count c.args.first in
-    let more : length (upto (c.loop-earlier.earlier + 1) f) ≡ length (upto c.loop-earlier.earlier f) + length (f c.loop-earlier.earlier) = length-more c.loop-earlier.earlier f in
-    let block : length (f c.loop-earlier.earlier) ≡ c.args.count - (c.loop-earlier.earlier + 1) = length-later c.args.count c.args.first c.loop-earlier.earlier in
+    let more : length (upto (c.loop-earlier.earlier + 1) f) ≡ length (upto c.loop-earlier.earlier f) + length (f c.loop-earlier.earlier) =
+    length-more c.loop-earlier.earlier f in
+    let block : length (f c.loop-earlier.earlier) ≡ c.args.count - (c.loop-earlier.earlier + 1) =
+    length-later c.args.count c.args.first c.loop-earlier.earlier in
     omega (arith, c.loop-earlier.invariant)
 
 pub unreachable-requires : goal.unreachable-requires
 unreachable-requires c =
     let f = not_with_later c.args.count c.args.first in
     let all : c.loop-earlier.earlier ≡ c.args.count = omega arith in
-    let whole : length (upto c.loop-earlier.earlier f) ≡ pairs_below c.args.count = ap (λ r. length (upto r f)) all ∙ length-no_two c.args.count c.args.first in
+    let whole : length (upto c.loop-earlier.earlier f) ≡ pairs_below c.args.count = ap (λ r. length (upto r f)) all
+    ∙ length-no_two c.args.count c.args.first in
     omega (arith, c.loop-earlier.invariant, c.requires.place)

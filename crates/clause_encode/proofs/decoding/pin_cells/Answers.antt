@@ -14,8 +14,13 @@ loop-pin-preserved c = λ k pin lt at.
     let i = c.loop-pin.pin-index in
     let here = c.pin-item.result in
     let i_in : i < length c.args.pins.now = omega arith in
-    let there : slice_get c.args.pins.now i ≡ Some here = slice_get_read c.args.pins.now (length c.args.pins.now) i here refl i_in c.pin-item.is in
-    let is : IsCell here.cell = record { row = omega (arith, c.row.ensures.row, c.row.ensures.in_range); col = omega (arith, c.col.ensures.col, c.col.ensures.in_range) } in
+    let there : slice_get c.args.pins.now i ≡ Some here =
+    slice_get_read c.args.pins.now (length c.args.pins.now) i here refl i_in c.pin-item.is in
+    let is : IsCell here.cell =
+    record {
+      row = omega (arith, c.row.ensures.row, c.row.ensures.in_range);
+      col = omega (arith, c.col.ensures.col, c.col.ensures.in_range);
+    } in
     elim (cases_lt k i) as (λ _. IsCell pin.cell) [
       | inl below ↦ c.loop-pin.invariant k pin below at
       | inr above ↦

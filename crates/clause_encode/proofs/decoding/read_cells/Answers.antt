@@ -14,14 +14,16 @@ first_true-row-requires-clause-some c =
     let a = truth_in c.args.model.now in
     let g = graph_of c.args.program.now in
     let lt : c.loop-label.label < length g.instrs = omega (arith, c.len.ensures, c.from-labels.ensures) in
-    subst (λ (v : ℕ). AllHold a (one (any_of 32 v))) (sym c.row_var.ensures) (cell_class-rows a g c.loop-label.label lt c.requires.holds).0
+    subst (λ (v : ℕ). AllHold a (one (any_of 32 v))) (sym c.row_var.ensures)
+    (cell_class-rows a g c.loop-label.label lt c.requires.holds).0
 
 pub first_true-col-requires-clause-some : goal.first_true-col-requires-clause-some
 first_true-col-requires-clause-some c =
     let a = truth_in c.args.model.now in
     let g = graph_of c.args.program.now in
     let lt : c.loop-label.label < length g.instrs = omega (arith, c.len.ensures, c.from-labels.ensures) in
-    subst (λ (v : ℕ). AllHold a (one (any_of 16 v))) (sym c.col_var.ensures) (cell_class-rows a g c.loop-label.label lt c.requires.holds).1
+    subst (λ (v : ℕ). AllHold a (one (any_of 16 v))) (sym c.col_var.ensures)
+    (cell_class-rows a g c.loop-label.label lt c.requires.holds).1
 
 pub loop-label-preserved : goal.loop-label-preserved
 loop-label-preserved c =
@@ -36,7 +38,9 @@ loop-label-preserved c =
     } in
     let here : IsReadCell a i c.at.result = subst (λ (p : Position). IsReadCell a i p) (sym c.at.ensures) read in
     let items = c.in_ok-push.ensures.items in
-    subst (λ (cells : List Position). record { count : length cells ≡ i + 1; cells : (j : ℕ) (q : Position) → slice_get cells j ≡ Some q → IsReadCell a j q }) (sym items)
+    subst (λ (cells : List Position).
+    record { count : length cells ≡ i + 1; cells : (j : ℕ) (q : Position) → slice_get cells j ≡ Some q → IsReadCell a j q })
+    (sym items)
     (record {
       count = length_push c.loop-label.cells.items c.at.result ∙ ap (λ n. n + 1) c.loop-label.invariant.count;
       cells = read-more a c.loop-label.cells.items i c.at.result c.loop-label.invariant.count c.loop-label.invariant.cells here;
@@ -46,8 +50,11 @@ pub returns-clause-legal : goal.returns-clause-legal
 returns-clause-legal c =
     let a = truth_in c.args.model.now in
     let g = graph_of c.args.program.now in
-    let count : length c.loop-label.cells.items ≡ length g.instrs = omega (arith, c.len.ensures, c.from-labels.ensures, c.loop-label.invariant.count) in
-    legal-from a g c.loop-label.cells.items c.args.program.now.valid (subst HavePinCells (c.as_slice.ensures ∙ c.pins.ensures) c.pin_cells.ensures) (read-from a g c.loop-label.cells.items c.requires.holds count c.loop-label.invariant.cells) c.requires.holds
+    let count : length c.loop-label.cells.items ≡ length g.instrs =
+    omega (arith, c.len.ensures, c.from-labels.ensures, c.loop-label.invariant.count) in
+    legal-from a g c.loop-label.cells.items c.args.program.now.valid
+    (subst HavePinCells (c.as_slice.ensures ∙ c.pins.ensures) c.pin_cells.ensures)
+    (read-from a g c.loop-label.cells.items c.requires.holds count c.loop-label.invariant.cells) c.requires.holds
 
 pub returns-clause-decodes : goal.returns-clause-decodes
 returns-clause-decodes c = true-cells (truth_in c.args.model.now) c.loop-label.cells.items c.loop-label.invariant.cells

@@ -14,4 +14,5 @@ add_clause-requires-clause-valid c =
 
 pub loop-place-preserved : goal.loop-place-preserved
 loop-place-preserved c =
-    Adds-take_more _ _ _ c.loop-place.place (block_clauses (graph_of c.args.program.now) c.args.block) _ c.clause.ensures.there c.loop-place.invariant c.in_ok-add_clause.ensures
+    Adds-take_more _ _ _ c.loop-place.place (block_clauses (graph_of c.args.program.now) c.args.block)
+    _ c.clause.ensures.there c.loop-place.invariant c.in_ok-add_clause.ensures

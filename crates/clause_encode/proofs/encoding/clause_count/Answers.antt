@@ -13,7 +13,8 @@ loop-number-init c = ap length (upto-none (numbered_block (graph_of c.args.progr
 pub overflow_add-count : goal.overflow_add-count
 overflow_add-count c =
     let g = graph_of c.args.program.now in
-    let block : length (numbered_block g c.loop-number.number) ≡ c.count-count.result = ap length (sym c.block_at.ensures.clauses) ∙ c.count-count.ensures in
+    let block : length (numbered_block g c.loop-number.number) ≡ c.count-count.result = ap length (sym c.block_at.ensures.clauses)
+    ∙ c.count-count.ensures in
     let fits = front_fits g c.loop-number.number (omega arith) in
     let few = few_clauses c.args.program.now in
     omega (arith, c.loop-number.invariant, fits, few)
@@ -21,7 +22,8 @@ overflow_add-count c =
 pub loop-number-preserved : goal.loop-number-preserved
 loop-number-preserved c =
     let g = graph_of c.args.program.now in
-    let block : length (numbered_block g c.loop-number.number) ≡ c.count-count.result = ap length (sym c.block_at.ensures.clauses) ∙ c.count-count.ensures in
+    let block : length (numbered_block g c.loop-number.number) ≡ c.count-count.result = ap length (sym c.block_at.ensures.clauses)
+    ∙ c.count-count.ensures in
     length-more c.loop-number.number (numbered_block g) ∙ (λ i. c.loop-number.invariant i + block i)
 
 pub returns-clause-count : goal.returns-clause-count

@@ -28,19 +28,23 @@ add_block-requires-clause-few c =
     omega (arith, block, front, none, fits, few)
 
 pub loop-number-preserved : goal.loop-number-preserved
-loop-number-preserved c = Adds-upto_more _ _ _ _ _ c.loop-number.invariant (Adds-same _ _ _ _ c.block_at.ensures.clauses c.in_ok-add_block.ensures)
+loop-number-preserved c =
+    Adds-upto_more _ _ _ _ _ c.loop-number.invariant (Adds-same _ _ _ _ c.block_at.ensures.clauses c.in_ok-add_block.ensures)
 
 pub returns-clause-clauses : goal.returns-clause-clauses
 returns-clause-clauses c =
     let g = graph_of c.args.program.now in
     let all : c.loop-number.number ≡ block_count g = omega arith in
-    Adds-all _ _ (var_count_of (length g.instrs)) (clauses_of g) (c.in_ok-list.ensures ∙ (λ k. record { vars = c.var_count.ensures k; clauses = [] }))
-    (Adds-same _ _ (upto c.loop-number.number (numbered_block g)) (clauses_of g) (ap (λ m. upto m (numbered_block g)) all ∙ blocks_are_clauses g) c.loop-number.invariant)
+    Adds-all _ _ (var_count_of (length g.instrs)) (clauses_of g)
+    (c.in_ok-list.ensures ∙ (λ k. record { vars = c.var_count.ensures k; clauses = [] }))
+    (Adds-same _ _ (upto c.loop-number.number (numbered_block g)) (clauses_of g)
+    (ap (λ m. upto m (numbered_block g)) all ∙ blocks_are_clauses g) c.loop-number.invariant)
 
 pub returns-clause-sound : goal.returns-clause-sound
 returns-clause-sound c = λ place legal.
     let g = graph_of c.args.program.now in
-    subst (λ (list : Clauses). AllHold (truth_in (meaning g place)) list.clauses) (sym (returns-clause-clauses c)) (meaning-sound g place c.args.program.now.valid legal)
+    subst (λ (list : Clauses). AllHold (truth_in (meaning g place)) list.clauses) (sym (returns-clause-clauses c))
+    (meaning-sound g place c.args.program.now.valid legal)
 
 pub returns-clause-few : goal.returns-clause-few
 returns-clause-few c =

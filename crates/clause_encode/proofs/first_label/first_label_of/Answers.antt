@@ -15,7 +15,8 @@ returns-in-Some-clause-label c =
 
 pub returns-in-Some-clause-there : goal.returns-in-Some-clause-there
 returns-in-Some-clause-there c =
-    slice_get-get_or c.args.targets.now c.loop-outcome.outcome None c.loop-outcome-test.true ∙ ap Some c.in-Some.is ∙ ap (λ y. Some (Some y)) (sym c.from.ensures)
+    slice_get-get_or c.args.targets.now c.loop-outcome.outcome None c.loop-outcome-test.true ∙ ap Some c.in-Some.is
+    ∙ ap (λ y. Some (Some y)) (sym c.from.ensures)
 
 pub loop-outcome-preserved : goal.loop-outcome-preserved
 loop-outcome-preserved c = below_more _ _ c.loop-outcome.invariant

@@ -16,7 +16,8 @@ returns-then-place-lt16 c =
     let from = c.negative.ensures ∙ ap (λ v. minus (v + c.args.place)) c.col_var.ensures in
     let to = c.positive.ensures ∙ ap (λ v. plus (v + c.args.place)) c.col_var-then-place-lt16.ensures in
     at_front cols (reach_clauses kind.Enable c.args.source c.args.target) c.args.place _ (omega arith)
-    (at_lits cols c.args.place _ (Two _ _) (same-at 16 (col_var c.args.source 0) (col_var c.args.target 0) c.args.place (omega arith)) (λ k. from k ∷ to k ∷ []) tt)
+    (at_lits cols c.args.place _ (Two _ _) (same-at 16 (col_var c.args.source 0) (col_var c.args.target 0) c.args.place (omega arith))
+    (λ k. from k ∷ to k ∷ []) tt)
 
 pub returns-else-place-lt16 : goal.returns-else-place-lt16
 returns-else-place-lt16 c =

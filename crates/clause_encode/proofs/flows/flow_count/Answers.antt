@@ -10,7 +10,8 @@ use Rattle.clause_encode.proofs.flows.flow_count.Goals as goal
 pub returns-in-Goto-clause-count : goal.returns-in-Goto-clause-count
 unfolding flow_clauses
 returns-in-Goto-clause-count c = λ n s.
-    ap (λ (k : Kind). length (flow_clauses n s k c.args.instr.now.targets)) c.in-Goto.is ∙ length-goto n s (first_label c.args.instr.now.targets)
+    ap (λ (k : Kind). length (flow_clauses n s k c.args.instr.now.targets)) c.in-Goto.is
+    ∙ length-goto n s (first_label c.args.instr.now.targets)
 
 pub returns-in-Strobe-clause-count : goal.returns-in-Strobe-clause-count
 unfolding flow_clauses
@@ -19,7 +20,8 @@ returns-in-Strobe-clause-count c = λ n s. ap (λ (k : Kind). length (flow_claus
 pub returns-in-Enable-clause-count : goal.returns-in-Enable-clause-count
 unfolding flow_clauses
 returns-in-Enable-clause-count c = λ n s.
-    ap (λ (k : Kind). length (flow_clauses n s k c.args.instr.now.targets)) c.in-Enable.is ∙ length-enable s (first_label c.args.instr.now.targets)
+    ap (λ (k : Kind). length (flow_clauses n s k c.args.instr.now.targets)) c.in-Enable.is
+    ∙ length-enable s (first_label c.args.instr.now.targets)
 
 pub returns-in_default : goal.returns-in_default
 returns-in_default c =

@@ -15,7 +15,9 @@ returns-then-place-lt17 c =
     let way = c.negative.ensures ∙ ap minus c.way_var-within_col.ensures in
     let from = c.negative-then-place-lt17.ensures ∙ ap (λ v. minus (v + k)) c.col_var.ensures in
     let to = c.positive-then-place-lt17.ensures ∙ ap (λ v. plus (v + k)) c.col_var-then-place-lt17.ensures in
-    at_lits list c.args.place _ (Three _ _ _) (ap (slice_get list) at ∙ goto-at_col c.args.labels c.args.source c.args.target k (omega arith)) (λ i. way i ∷ from i ∷ to i ∷ []) tt
+    at_lits list c.args.place _ (Three _ _ _)
+    (ap (slice_get list) at ∙ goto-at_col c.args.labels c.args.source c.args.target k (omega arith)) (λ i. way i ∷ from i ∷ to i ∷ [])
+    tt
 
 pub returns-then-place-eq17 : goal.returns-then-place-eq17
 returns-then-place-eq17 c =
@@ -23,7 +25,8 @@ returns-then-place-eq17 c =
     let at : c.args.place ≡ 17 = omega arith in
     let way = c.negative-then-place-eq17.ensures ∙ ap minus c.way_var-to_row_0.ensures in
     let to = c.positive-then-place-eq17.ensures ∙ ap plus c.row_var.ensures in
-    at_lits list c.args.place _ (Two _ _) (ap (slice_get list) at ∙ goto-at_zero c.args.labels c.args.source c.args.target) (λ i. way i ∷ to i ∷ []) tt
+    at_lits list c.args.place _ (Two _ _) (ap (slice_get list) at ∙ goto-at_zero c.args.labels c.args.source c.args.target)
+    (λ i. way i ∷ to i ∷ []) tt
 
 pub returns-then-place-eq18 : goal.returns-then-place-eq18
 returns-then-place-eq18 c =
@@ -31,7 +34,8 @@ returns-then-place-eq18 c =
     let at : c.args.place ≡ 18 = omega arith in
     let way = c.negative-then-place-eq18.ensures ∙ ap minus c.way_var-to_row_0.ensures in
     let not_strobe = c.negative-then-place-eq18-2.ensures ∙ ap minus c.col_var-then-place-eq18.ensures in
-    at_lits list c.args.place _ (Two _ _) (ap (slice_get list) at ∙ goto-at_low c.args.labels c.args.source c.args.target) (λ i. way i ∷ not_strobe i ∷ []) tt
+    at_lits list c.args.place _ (Two _ _) (ap (slice_get list) at ∙ goto-at_low c.args.labels c.args.source c.args.target)
+    (λ i. way i ∷ not_strobe i ∷ []) tt
 
 pub returns-else-place-eq18 : goal.returns-else-place-eq18
 returns-else-place-eq18 c =
@@ -41,7 +45,9 @@ returns-else-place-eq18 c =
     let way = c.negative-else-place-eq18.ensures ∙ ap minus c.way_var-within_row.ensures in
     let from = c.negative-else-place-eq18-2.ensures ∙ ap (λ v. minus (v + k)) c.row_var-else-place-eq18.ensures in
     let to = c.positive-else-place-eq18.ensures ∙ ap (λ v. plus (v + k)) c.row_var-else-place-eq18-2.ensures in
-    at_lits list c.args.place _ (Three _ _ _) (ap (slice_get list) at ∙ goto-at_row c.args.labels c.args.source c.args.target k (omega arith)) (λ i. way i ∷ from i ∷ to i ∷ []) tt
+    at_lits list c.args.place _ (Three _ _ _)
+    (ap (slice_get list) at ∙ goto-at_row c.args.labels c.args.source c.args.target k (omega arith)) (λ i. way i ∷ from i ∷ to i ∷ [])
+    tt
   where
     after : (p : ℕ) → 17 ≤ p → (p ≡ 17 → ⊥) → (p ≡ 18 → ⊥) → p ≡ 19 + (p - 19)
     after p a b d = omega arith

@@ -9,4 +9,5 @@ use Rattle.clause_encode.proofs.givens.bound_clause.Goals as goal
 pub returns : goal.returns
 returns c =
     let lit = c.negative.ensures ∙ ap minus c.row_var.ensures in
-    at_lits (bound_clauses c.args.rows c.args.label) c.args.place _ (One _) (bound-at c.args.rows c.args.label c.args.place c.requires.place) (λ k. lit k ∷ []) tt
+    at_lits (bound_clauses c.args.rows c.args.label) c.args.place _ (One _)
+    (bound-at c.args.rows c.args.label c.args.place c.requires.place) (λ k. lit k ∷ []) tt

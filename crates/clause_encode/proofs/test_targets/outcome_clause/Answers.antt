@@ -11,7 +11,8 @@ use Rattle.clause_encode.proofs.test_targets.outcome_clause.Goals as goal
 pub cols_clause-requires-else-place-lt32-clause-place : goal.cols_clause-requires-else-place-lt32-clause-place
 cols_clause-requires-else-place-lt32-clause-place c =
     let first = c.args.first in
-    let whole : length (outcome_clauses c.args.kind c.args.source first.outcome first.label c.args.outcome c.args.label) ≡ 32 + length (col_clauses c.args.kind c.args.source c.args.outcome c.args.label) =
+    let whole : length (outcome_clauses c.args.kind c.args.source first.outcome first.label c.args.outcome c.args.label) ≡ 32 + length
+    (col_clauses c.args.kind c.args.source c.args.outcome c.args.label) =
     length-outcome_other c.args.kind c.args.source first.outcome first.label c.args.outcome c.args.label c.if-outcome-first.false in
     omega (arith, c.requires.place)
 
@@ -23,10 +24,12 @@ returns-then-place-lt32 c =
     let long : length rows ≡ 32 = length-same 32 (row_var first.label 0) (row_var c.args.label 0) in
     let from = c.negative.ensures ∙ ap (λ v. minus (v + c.args.place)) c.row_var.ensures in
     let to = c.positive.ensures ∙ ap (λ v. plus (v + c.args.place)) c.row_var-then-place-lt32.ensures in
-    at_same (outcome_clauses c.args.kind c.args.source first.outcome first.label c.args.outcome c.args.label) (rows ++ cols) c.args.place _
+    at_same (outcome_clauses c.args.kind c.args.source first.outcome first.label c.args.outcome c.args.label) (rows ++ cols)
+    c.args.place _
     (outcome-other c.args.kind c.args.source first.outcome first.label c.args.outcome c.args.label c.if-outcome-first.false)
     (at_front rows cols c.args.place _ (omega arith)
-    (at_lits rows c.args.place _ (Two _ _) (same-at 32 (row_var first.label 0) (row_var c.args.label 0) c.args.place (omega arith)) (λ k. from k ∷ to k ∷ []) tt))
+    (at_lits rows c.args.place _ (Two _ _) (same-at 32 (row_var first.label 0) (row_var c.args.label 0) c.args.place (omega arith))
+    (λ k. from k ∷ to k ∷ []) tt))
 
 pub returns-else-place-lt32 : goal.returns-else-place-lt32
 returns-else-place-lt32 c =
@@ -34,6 +37,7 @@ returns-else-place-lt32 c =
     let rows = same 32 (row_var first.label 0) (row_var c.args.label 0) in
     let cols = col_clauses c.args.kind c.args.source c.args.outcome c.args.label in
     let long : length rows ≡ 32 = length-same 32 (row_var first.label 0) (row_var c.args.label 0) in
-    at_same (outcome_clauses c.args.kind c.args.source first.outcome first.label c.args.outcome c.args.label) (rows ++ cols) c.args.place _
+    at_same (outcome_clauses c.args.kind c.args.source first.outcome first.label c.args.outcome c.args.label) (rows ++ cols)
+    c.args.place _
     (outcome-other c.args.kind c.args.source first.outcome first.label c.args.outcome c.args.label c.if-outcome-first.false)
     (at_back rows cols c.args.place (c.args.place - 32) _ (omega arith) c.cols_clause-else-place-lt32.ensures)

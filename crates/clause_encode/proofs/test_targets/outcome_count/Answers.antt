@@ -4,4 +4,5 @@ use Rattle.clause_encode.proofs.test_targets.outcome_count.Goals as goal
 
 pub returns-else-outcome-first-clause-count : goal.returns-else-outcome-first-clause-count
 returns-else-outcome-first-clause-count c = λ s y.
-    length-outcome_other c.args.kind s c.args.first.outcome c.args.first.label c.args.outcome y c.if-outcome-first.false ∙ ap (λ m. 32 + m) (c.cols_count-cols.ensures.count s c.args.outcome y)
+    length-outcome_other c.args.kind s c.args.first.outcome c.args.first.label c.args.outcome y c.if-outcome-first.false
+    ∙ ap (λ m. 32 + m) (c.cols_count-cols.ensures.count s c.args.outcome y)

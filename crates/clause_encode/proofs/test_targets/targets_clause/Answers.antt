@@ -14,19 +14,23 @@ loop-outcome-init c =
     omega arith
 
 pub target_clause-requires-clause-target : goal.target_clause-requires-clause-target
-target_clause-requires-clause-target c = λ y is. c.requires.targets c.loop-outcome.outcome y (slice_get-get_or c.args.targets.now c.loop-outcome.outcome None c.loop-outcome-test.true ∙ ap Some is)
+target_clause-requires-clause-target c =
+    λ y is. c.requires.targets c.loop-outcome.outcome y
+    (slice_get-get_or c.args.targets.now c.loop-outcome.outcome None c.loop-outcome-test.true ∙ ap Some is)
 
 pub returns-then-left-block : goal.returns-then-left-block
 returns-then-left-block c =
     let f = target_clauses c.args.kind c.args.source c.args.first.outcome c.args.first.label in
     let there = slice_get-get_or c.args.targets.now c.loop-outcome.outcome None c.loop-outcome-test.true in
     let block = c.target_count-block.ensures.count c.args.source in
-    at_element c.args.targets.now f c.loop-outcome.outcome _ c.args.place c.loop-outcome.left _ there c.loop-outcome.invariant (omega (arith, block)) c.target_clause.ensures
+    at_element c.args.targets.now f c.loop-outcome.outcome _ c.args.place c.loop-outcome.left _ there c.loop-outcome.invariant
+    (omega (arith, block)) c.target_clause.ensures
 
 pub loop-outcome-preserved : goal.loop-outcome-preserved
 loop-outcome-preserved c =
     let f = target_clauses c.args.kind c.args.source c.args.first.outcome c.args.first.label in
     let there = slice_get-get_or c.args.targets.now c.loop-outcome.outcome None c.loop-outcome-test.true in
-    let more : length (upto (c.loop-outcome.outcome + 1) (at_place c.args.targets.now f)) ≡ length (upto c.loop-outcome.outcome (at_place c.args.targets.now f)) + c.target_count-block.result =
+    let more : length (upto (c.loop-outcome.outcome + 1) (at_place c.args.targets.now f)) ≡ length
+    (upto c.loop-outcome.outcome (at_place c.args.targets.now f)) + c.target_count-block.result =
     length-each_more c.args.targets.now f c.loop-outcome.outcome _ _ _ there (c.target_count-block.ensures.count c.args.source) refl in
     omega (arith, c.loop-outcome.invariant)

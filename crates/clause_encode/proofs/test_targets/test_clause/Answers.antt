@@ -14,9 +14,12 @@ targets_clause-requires-clause-place c =
     let ts = c.args.targets.now in
     let outcome = c.first_label_of-first.ensures.outcome in
     let label = c.first_label_of-first.ensures.label in
-    let same : length (each_of ts (target_clauses kind c.args.source c.first_label_of-first.result.outcome c.first_label_of-first.result.label)) ≡ length (each_of ts (target_clauses kind c.args.source (first_real ts) (first_label ts))) =
+    let same : length (each_of ts
+    (target_clauses kind c.args.source c.first_label_of-first.result.outcome c.first_label_of-first.result.label)) ≡ length
+    (each_of ts (target_clauses kind c.args.source (first_real ts) (first_label ts))) =
     λ i. length (each_of ts (target_clauses kind c.args.source (outcome i) (label i))) in
-    let whole : length (test_clauses kind c.args.source ts (first_real ts) (first_label ts)) ≡ 32 + length (each_of ts (target_clauses kind c.args.source (first_real ts) (first_label ts))) =
+    let whole : length (test_clauses kind c.args.source ts (first_real ts) (first_label ts)) ≡ 32 + length
+    (each_of ts (target_clauses kind c.args.source (first_real ts) (first_label ts))) =
     length-test kind c.args.source ts (first_real ts) (first_label ts) _ refl in
     subst (λ (m : ℕ). c.args.place - 32 < m) (sym same) (omega (arith, c.requires.place))
 
@@ -26,11 +29,14 @@ returns-then-place-lt32 c =
     let ts = c.args.targets.now in
     let rows = reach_clauses kind c.args.source (first_label ts) in
     let long : length rows ≡ 32 = length-reach kind c.args.source (first_label ts) in
-    let below : c.first_label_of-first.result.label < 512 = c.requires.targets c.first_label_of-first.result.outcome c.first_label_of-first.result.label c.first_label_of-first.ensures.there in
+    let below : c.first_label_of-first.result.label < 512 =
+    c.requires.targets c.first_label_of-first.result.outcome c.first_label_of-first.result.label c.first_label_of-first.ensures.there
+    in
     at_front rows (each_of ts (target_clauses kind c.args.source (first_real ts) (first_label ts))) c.args.place _ (omega arith)
     (at_same rows (reach_clauses kind c.args.source c.first_label_of-first.result.label) c.args.place _
     (sym (ap (reach_clauses kind c.args.source) c.first_label_of-first.ensures.label))
-    (at_lits (reach_clauses kind c.args.source c.first_label_of-first.result.label) c.args.place _ (Reach kind c.args.source c.first_label_of-first.result.label c.args.place)
+    (at_lits (reach_clauses kind c.args.source c.first_label_of-first.result.label) c.args.place _
+    (Reach kind c.args.source c.first_label_of-first.result.label c.args.place)
     (reach-at kind c.args.source c.first_label_of-first.result.label c.args.place (omega arith)) refl (omega arith, below, omega arith)))
 
 pub returns-else-place-lt32 : goal.returns-else-place-lt32
@@ -43,5 +49,7 @@ returns-else-place-lt32 c =
     let rest = each_of ts (target_clauses kind c.args.source (first_real ts) (first_label ts)) in
     let long : length rows ≡ 32 = length-reach kind c.args.source (first_label ts) in
     at_back rows rest c.args.place (c.args.place - 32) _ (omega arith)
-    (at_same rest (each_of ts (target_clauses kind c.args.source c.first_label_of-first.result.outcome c.first_label_of-first.result.label)) (c.args.place - 32) _
+    (at_same rest (each_of ts
+    (target_clauses kind c.args.source c.first_label_of-first.result.outcome c.first_label_of-first.result.label)) (c.args.place - 32)
+    _
     (sym (λ i. each_of ts (target_clauses kind c.args.source (outcome i) (label i)))) c.targets_clause.ensures)

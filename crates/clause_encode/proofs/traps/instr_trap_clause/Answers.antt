@@ -14,7 +14,9 @@ traps_clause-requires-clause-place c =
     let targets = c.as_slice-targets.ensures in
     let label = c.first_label_of-first.ensures.label ∙ ap first_label targets in
     let outcome = c.first_label_of-first.ensures.outcome ∙ ap first_real targets in
-    let same : length (each_of c.as_slice-targets.result.now (trap_outcome n kind c.first_label_of-first.result.label c.first_label_of-first.result.outcome)) ≡ length (each_of ts (trap_outcome n kind (first_label ts) (first_real ts))) =
+    let same : length (each_of c.as_slice-targets.result.now
+    (trap_outcome n kind c.first_label_of-first.result.label c.first_label_of-first.result.outcome)) ≡ length
+    (each_of ts (trap_outcome n kind (first_label ts) (first_real ts))) =
     λ i. length (each_of (targets i) (trap_outcome n kind (label i) (outcome i))) in
     subst (λ (m : ℕ). c.args.place < m) (sym same) c.requires.place
 
@@ -26,5 +28,7 @@ returns c =
     let targets = c.as_slice-targets.ensures in
     let label = c.first_label_of-first.ensures.label ∙ ap first_label targets in
     let outcome = c.first_label_of-first.ensures.outcome ∙ ap first_real targets in
-    at_same (trap_clauses n kind c.args.instr.now.targets) (each_of c.as_slice-targets.result.now (trap_outcome n kind c.first_label_of-first.result.label c.first_label_of-first.result.outcome)) c.args.place _
+    at_same (trap_clauses n kind c.args.instr.now.targets)
+    (each_of c.as_slice-targets.result.now
+    (trap_outcome n kind c.first_label_of-first.result.label c.first_label_of-first.result.outcome)) c.args.place _
     (sym (λ i. each_of (targets i) (trap_outcome n kind (label i) (outcome i)))) c.traps_clause.ensures

@@ -10,4 +10,5 @@ returns-clause-count c =
     let targets = c.as_slice-targets.ensures in
     let label = c.first_label_of.ensures.label ∙ ap first_label targets in
     let outcome = c.first_label_of.ensures.outcome ∙ ap first_real targets in
-    sym (λ i. length (each_of (targets i) (trap_outcome c.args.labels c.args.instr.now.kind (label i) (outcome i)))) ∙ c.traps_count.ensures.count
+    sym (λ i. length (each_of (targets i) (trap_outcome c.args.labels c.args.instr.now.kind (label i) (outcome i))))
+    ∙ c.traps_count.ensures.count

@@ -8,4 +8,5 @@ returns-in-None-clause-count c = λ o.
     let n = c.args.labels in
     let first = c.args.first in
     ap (λ (t : Option ℕ). length (trap_outcome n c.args.kind first.label first.outcome o t)) c.in-None.is
-    ∙ length-free_landing n c.args.kind first.label first.outcome o c.trap_pair_count.result (λ z. c.trap_pair_count.ensures.count n first.label first.outcome o z) c.requires.first
+    ∙ length-free_landing n c.args.kind first.label first.outcome o c.trap_pair_count.result
+    (λ z. c.trap_pair_count.ensures.count n first.label first.outcome o z) c.requires.first

@@ -18,12 +18,15 @@ returns-then-left-block c =
     let f = trap_outcome c.args.labels c.args.kind c.args.first.label c.args.first.outcome in
     let there = slice_get-get_or c.args.targets.now c.loop-outcome.outcome None c.loop-outcome-test.true in
     let block = c.trap_outcome_count-block.ensures.count c.loop-outcome.outcome in
-    at_element c.args.targets.now f c.loop-outcome.outcome _ c.args.place c.loop-outcome.left _ there c.loop-outcome.invariant (omega (arith, block)) c.trap_outcome_clause.ensures
+    at_element c.args.targets.now f c.loop-outcome.outcome _ c.args.place c.loop-outcome.left _ there c.loop-outcome.invariant
+    (omega (arith, block)) c.trap_outcome_clause.ensures
 
 pub loop-outcome-preserved : goal.loop-outcome-preserved
 loop-outcome-preserved c =
     let f = trap_outcome c.args.labels c.args.kind c.args.first.label c.args.first.outcome in
     let there = slice_get-get_or c.args.targets.now c.loop-outcome.outcome None c.loop-outcome-test.true in
-    let more : length (upto (c.loop-outcome.outcome + 1) (at_place c.args.targets.now f)) ≡ length (upto c.loop-outcome.outcome (at_place c.args.targets.now f)) + c.trap_outcome_count-block.result =
-    length-each_more c.args.targets.now f c.loop-outcome.outcome _ _ _ there (c.trap_outcome_count-block.ensures.count c.loop-outcome.outcome) refl in
+    let more : length (upto (c.loop-outcome.outcome + 1) (at_place c.args.targets.now f)) ≡ length
+    (upto c.loop-outcome.outcome (at_place c.args.targets.now f)) + c.trap_outcome_count-block.result =
+    length-each_more c.args.targets.now f c.loop-outcome.outcome _ _ _ there
+    (c.trap_outcome_count-block.ensures.count c.loop-outcome.outcome) refl in
     omega (arith, c.loop-outcome.invariant)

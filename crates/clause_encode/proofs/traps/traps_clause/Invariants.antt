@@ -5,4 +5,5 @@ use Rattle.clause_encode.proofs.traps.traps_clause.Given as goal
 
 -- the place is in the targets to come
 abbrev pub invariant-loop-outcome : goal.invariant-loop-outcome
-invariant-loop-outcome l = length (upto l.outcome (at_place l.targets (trap_outcome l.labels l.kind l.first.label l.first.outcome))) + l.left ≡ l.place
+invariant-loop-outcome l =
+    length (upto l.outcome (at_place l.targets (trap_outcome l.labels l.kind l.first.label l.first.outcome))) + l.left ≡ l.place

@@ -23,8 +23,10 @@ returns-in-Ok-clause-ends g c =
     let by_text : List ℕ → Type 0 = λ b. IsWritten old new name b in
     let by_line : List ℕ → Type 0 = λ l. Says c.args.status l from to c.say.result in
     let written = subst by_text c.deref.ensures.value (subst by_name c.as_str.ensures.value c.in-Ok.ensures.ok) in
-    says_ends (SavesOrCannot (file_of name bytes ∷ []) c.args.status file.told.items old new) c.args.status file.told.items from to c.say.result
-    (saved_told name bytes file.told.items c.args.status old new written c.in-Ok.ensures.calls (c.one_written_file_is_saved.ensures.saved old new name bytes written))
+    says_ends (SavesOrCannot (file_of name bytes ∷ []) c.args.status file.told.items old new)
+    c.args.status file.told.items from to c.say.result
+    (saved_told name bytes file.told.items c.args.status old new written c.in-Ok.ensures.calls
+    (c.one_written_file_is_saved.ensures.saved old new name bytes written))
     (subst by_line c.deref-in-Ok.ensures.value c.say.ensures.says)
 
 pub returns-clause-ends : goal.returns-clause-ends
@@ -40,7 +42,10 @@ returns-clause-ends g c =
     let by_text : List ℕ → Type 0 = λ b. IsUnwritten old new name b in
     let by_line : List ℕ → Type 0 = λ l. Says status.ShelfFault l from to c.say-in-Err.result in
     let unwritten = subst by_text c.deref.ensures.value (subst by_name c.as_str.ensures.value c.in-Err.ensures.err) in
-    let told : c.deref-in-Err.result.now ≡ cannot_save name = c.deref-in-Err.ensures.value ∙ c.say_unsaved.ensures ∙ ap cannot_save c.as_str-in-Err.ensures.value in
-    says_ends (SavesOrCannot (file_of name bytes ∷ []) c.args.status file.told.items old new) status.ShelfFault (cannot_save name) from to c.say-in-Err.result
-    (unsaved_told name bytes file.told.items c.args.status old new unwritten c.in-Err.ensures.tries (c.one_written_file_is_saved.ensures.failed old new name bytes unwritten))
+    let told : c.deref-in-Err.result.now ≡ cannot_save name = c.deref-in-Err.ensures.value ∙ c.say_unsaved.ensures
+    ∙ ap cannot_save c.as_str-in-Err.ensures.value in
+    says_ends (SavesOrCannot (file_of name bytes ∷ []) c.args.status file.told.items old new) status.ShelfFault (cannot_save name)
+    from to c.say-in-Err.result
+    (unsaved_told name bytes file.told.items c.args.status old new unwritten c.in-Err.ensures.tries
+    (c.one_written_file_is_saved.ensures.failed old new name bytes unwritten))
     (subst by_line told c.say-in-Err.ensures.says)

@@ -24,7 +24,8 @@ returns-in-Err-Failed-clause-ends g c =
 
 pub returns-in-Err-OutOfMemory-clause-ends : goal.returns-in-Err-OutOfMemory-clause-ends
 returns-in-Err-OutOfMemory-clause-ends g c =
-    let P : SinkState → Type 0 = λ sink. Says status.NoMemory no_memory sink (g.K.Sink.state c.say_no_memory.new.out) c.say_no_memory.result in
+    let P : SinkState → Type 0 =
+    λ sink. Says status.NoMemory no_memory sink (g.K.Sink.state c.say_no_memory.new.out) c.say_no_memory.result in
     says_ends (OrNoMemory (IsFlow (graph_of c.args.program.now) c.args.script.now c.args.clocks)) status.NoMemory no_memory
     (g.K.Sink.state c.args.out.now) (g.K.Sink.state c.say_no_memory.new.out) c.say_no_memory.result (inr (refl, refl))
     (subst P (rw c.in-Err-OutOfMemory.field-0-is at c.in-Err-OutOfMemory.ensures.cause) c.say_no_memory.ensures.says)

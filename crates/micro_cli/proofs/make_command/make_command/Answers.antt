@@ -21,7 +21,8 @@ returns-in-Ok-clause-ends g c =
     Ends-map (SearchAnswer asked.out.now asked.script.now bytes asked.clocks c.args.conflicts graph mid new)
     (MakeAnswer c.args.src.now asked.script.now asked.out.now asked.clocks c.args.conflicts old new)
     (make_from c.args.src.now asked.script.now asked.out.now asked.clocks c.args.conflicts old mid new graph bytes c.in-Ok.ensures.step)
-    (g.K.Sink.state c.args.out.now) (g.K.Sink.state c.place_and_save.new.out) c.place_and_save.result (subst P c.deref.ensures.value c.place_and_save.ensures.ends)
+    (g.K.Sink.state c.args.out.now) (g.K.Sink.state c.place_and_save.new.out) c.place_and_save.result
+    (subst P c.deref.ensures.value c.place_and_save.ensures.ends)
 
 pub returns-in-Err-clause-ends : goal.returns-in-Err-clause-ends
 returns-in-Err-clause-ends g c =
@@ -32,5 +33,6 @@ returns-in-Err-clause-ends g c =
     (MakeAnswer c.args.src.now asked.script.now asked.out.now asked.clocks c.args.conflicts old new)
     (make_without c.args.src.now asked.script.now asked.out.now asked.clocks c.args.conflicts old new c.load_make_inputs.ensures.same)
     (g.K.Sink.state c.args.out.now) (g.K.Sink.state c.say_stop.new.out) c.say_stop.result
-    (said_stop (InputsReply c.args.src.now asked.script.now old new) c.in-Err.stop (g.K.Sink.state c.args.out.now) (g.K.Sink.state c.say_stop.new.out) c.say_stop.result
+    (said_stop (InputsReply c.args.src.now asked.script.now old new) c.in-Err.stop (g.K.Sink.state c.args.out.now)
+    (g.K.Sink.state c.say_stop.new.out) c.say_stop.result
     c.in-Err.ensures.step c.say_stop.ensures.says)

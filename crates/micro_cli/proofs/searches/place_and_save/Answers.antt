@@ -20,5 +20,6 @@ pub returns-in-Err-OutOfMemory-clause-ends : goal.returns-in-Err-OutOfMemory-cla
 returns-in-Err-OutOfMemory-clause-ends g c =
     let asked = c.args.asked in
     let shelf = g.S.Shelf.state c.args.shelf.now in
-    wants_ends (SearchEnd asked.out.now asked.script.now c.args.script_bytes.now asked.clocks c.args.conflicts (graph_of c.args.program.now) shelf shelf) shelf
+    wants_ends (SearchEnd asked.out.now asked.script.now c.args.script_bytes.now asked.clocks c.args.conflicts
+    (graph_of c.args.program.now) shelf shelf) shelf
     (g.K.Sink.state c.args.out.now) (g.K.Sink.state c.say_no_memory.new.out) c.say_no_memory.result c.say_no_memory.ensures.says

@@ -5,40 +5,49 @@ use Rattle.micro_cli.proofs.top_call.top.Goals as goal
 
 pub returns-clause-images : goal.returns-clause-images
 returns-clause-images g c =
-    c.answers_keep_the_promises.ensures.images (command_of (map string_bytes c.args.words.now)) (g.S.Shelf.state c.args.shelf.now) (g.S.Shelf.state c.answer-status.new.shelf)
+    c.answers_keep_the_promises.ensures.images (command_of (map string_bytes c.args.words.now)) (g.S.Shelf.state c.args.shelf.now)
+    (g.S.Shelf.state c.answer-status.new.shelf)
     (g.K.Sink.state c.args.out.now) (g.K.Sink.state c.answer-status.new.out) c.answer-status.result c.answer-status.ensures.ends
 
 pub returns-clause-read_back : goal.returns-clause-read_back
 returns-clause-read_back g c =
-    c.answers_keep_the_promises.ensures.read_back (command_of (map string_bytes c.args.words.now)) (g.S.Shelf.state c.args.shelf.now) (g.S.Shelf.state c.answer-status.new.shelf)
+    c.answers_keep_the_promises.ensures.read_back (command_of (map string_bytes c.args.words.now)) (g.S.Shelf.state c.args.shelf.now)
+    (g.S.Shelf.state c.answer-status.new.shelf)
     (g.K.Sink.state c.args.out.now) (g.K.Sink.state c.answer-status.new.out) c.answer-status.result c.answer-status.ensures.ends
 
 pub returns-clause-refutation : goal.returns-clause-refutation
 returns-clause-refutation g c =
-    c.answers_keep_the_promises.ensures.refutation (command_of (map string_bytes c.args.words.now)) (g.S.Shelf.state c.args.shelf.now) (g.S.Shelf.state c.answer-status.new.shelf)
+    c.answers_keep_the_promises.ensures.refutation (command_of (map string_bytes c.args.words.now)) (g.S.Shelf.state c.args.shelf.now)
+    (g.S.Shelf.state c.answer-status.new.shelf)
     (g.K.Sink.state c.args.out.now) (g.K.Sink.state c.answer-status.new.out) c.answer-status.result c.answer-status.ensures.ends
 
 pub returns-clause-checking : goal.returns-clause-checking
 returns-clause-checking g c =
-    c.answers_keep_the_promises.ensures.checking (command_of (map string_bytes c.args.words.now)) (g.S.Shelf.state c.args.shelf.now) (g.S.Shelf.state c.answer-status.new.shelf)
+    c.answers_keep_the_promises.ensures.checking (command_of (map string_bytes c.args.words.now)) (g.S.Shelf.state c.args.shelf.now)
+    (g.S.Shelf.state c.answer-status.new.shelf)
     (g.K.Sink.state c.args.out.now) (g.K.Sink.state c.answer-status.new.out) c.answer-status.result c.answer-status.ensures.ends
 
 pub returns-clause-budget : goal.returns-clause-budget
 returns-clause-budget g c =
-    c.answers_keep_the_promises.ensures.budget (command_of (map string_bytes c.args.words.now)) (g.S.Shelf.state c.args.shelf.now) (g.S.Shelf.state c.answer-status.new.shelf)
+    c.answers_keep_the_promises.ensures.budget (command_of (map string_bytes c.args.words.now)) (g.S.Shelf.state c.args.shelf.now)
+    (g.S.Shelf.state c.answer-status.new.shelf)
     (g.K.Sink.state c.args.out.now) (g.K.Sink.state c.answer-status.new.out) c.answer-status.result c.answer-status.ensures.ends
 
 pub returns-clause-decides : goal.returns-clause-decides
 returns-clause-decides g c =
-    c.answers_keep_the_promises.ensures.decides (command_of (map string_bytes c.args.words.now)) (g.S.Shelf.state c.args.shelf.now) (g.S.Shelf.state c.answer-status.new.shelf)
+    c.answers_keep_the_promises.ensures.decides (command_of (map string_bytes c.args.words.now)) (g.S.Shelf.state c.args.shelf.now)
+    (g.S.Shelf.state c.answer-status.new.shelf)
     (g.K.Sink.state c.args.out.now) (g.K.Sink.state c.answer-status.new.out) c.answer-status.result c.answer-status.ensures.ends
 
 pub returns-clause-acceptance : goal.returns-clause-acceptance
 returns-clause-acceptance g c =
-    c.answers_keep_the_promises.ensures.acceptance (command_of (map string_bytes c.args.words.now)) (g.S.Shelf.state c.args.shelf.now) (g.S.Shelf.state c.answer-status.new.shelf)
+    c.answers_keep_the_promises.ensures.acceptance (command_of (map string_bytes c.args.words.now)) (g.S.Shelf.state c.args.shelf.now)
+    (g.S.Shelf.state c.answer-status.new.shelf)
     (g.K.Sink.state c.args.out.now) (g.K.Sink.state c.answer-status.new.out) c.answer-status.result c.answer-status.ensures.ends
 
 pub returns-clause-nothing : goal.returns-clause-nothing
 returns-clause-nothing g c =
-    c.answers_keep_the_promises.ensures.nothing (command_of (map string_bytes c.args.words.now)) (g.S.Shelf.state c.args.shelf.now) (g.S.Shelf.state c.answer-status.new.shelf)
-    (g.K.Sink.state c.args.out.now) (g.K.Sink.state c.answer-status.new.out) c.answer-status.result c.answer-status.ensures.keeps c.answer-status.ensures.ends
+    c.answers_keep_the_promises.ensures.nothing (command_of (map string_bytes c.args.words.now)) (g.S.Shelf.state c.args.shelf.now)
+    (g.S.Shelf.state c.answer-status.new.shelf)
+    (g.K.Sink.state c.args.out.now) (g.K.Sink.state c.answer-status.new.out)
+    c.answer-status.result c.answer-status.ensures.keeps c.answer-status.ensures.ends

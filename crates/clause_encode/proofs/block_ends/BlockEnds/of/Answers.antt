@@ -18,7 +18,8 @@ loop-number-init c = record {
 pub overflow_add-end : goal.overflow_add-end
 overflow_add-end c =
     let g = graph_of c.args.program.now in
-    let block : length (numbered_block g c.loop-number.number) ≡ c.count-end.result = ap length (sym c.block_at.ensures.clauses) ∙ c.count-end.ensures in
+    let block : length (numbered_block g c.loop-number.number) ≡ c.count-end.result = ap length (sym c.block_at.ensures.clauses)
+    ∙ c.count-end.ensures in
     let fits = front_fits g c.loop-number.number (omega arith) in
     let few = few_clauses c.args.program.now in
     omega (arith, c.loop-number.invariant.last, fits, few)
@@ -26,11 +27,13 @@ overflow_add-end c =
 pub loop-number-preserved : goal.loop-number-preserved
 loop-number-preserved c =
     let g = graph_of c.args.program.now in
-    let block : length (numbered_block g c.loop-number.number) ≡ c.count-end.result = ap length (sym c.block_at.ensures.clauses) ∙ c.count-end.ensures in
+    let block : length (numbered_block g c.loop-number.number) ≡ c.count-end.result = ap length (sym c.block_at.ensures.clauses)
+    ∙ c.count-end.ensures in
     let last : length (upto (c.loop-number.number + 1) (numbered_block g)) ≡ c.loop-number.end + c.count-end.result =
     length-more c.loop-number.number (numbered_block g) ∙ (λ i. c.loop-number.invariant.last i + block i) in
     record {
       count = omega (arith, c.in_ok-push.ensures.len, c.loop-number.invariant.count);
       last = last;
-      each = ends_more g c.loop-number.items.items c.push.new.self.items c.loop-number.number (c.loop-number.end + c.count-end.result) c.loop-number.invariant.count c.in_ok-push.ensures.items last c.loop-number.invariant.each;
+      each = ends_more g c.loop-number.items.items c.push.new.self.items c.loop-number.number (c.loop-number.end + c.count-end.result)
+          c.loop-number.invariant.count c.in_ok-push.ensures.items last c.loop-number.invariant.each;
     }

@@ -14,7 +14,8 @@ flow_count-requires-clause-label c = (c.args.program.now.valid.each_instr _ c.in
 
 pub instr_traps_count-requires-clause-instr : goal.instr_traps_count-requires-clause-instr
 instr_traps_count-requires-clause-instr c =
-    rw (c.from-in-Traps.ensures, c.len.ensures) (c.args.program.now.valid.each_instr _ c.instr-in-Traps.result.now c.instr-in-Traps.ensures)
+    rw (c.from-in-Traps.ensures, c.len.ensures)
+    (c.args.program.now.valid.each_instr _ c.instr-in-Traps.result.now c.instr-in-Traps.ensures)
 
 pub returns-in-Cell : goal.returns-in-Cell
 returns-in-Cell c = ap (λ (b : Block). length (block_clauses (graph_of c.args.program.now) b)) c.in-Cell.is ∙ length-cell _
@@ -28,4 +29,5 @@ returns-in-Apart c =
 pub returns-in-Bound : goal.returns-in-Bound
 returns-in-Bound c =
     let rows = c.from.ensures ∙ c.rows.ensures in
-    ap (λ (b : Block). length (block_clauses (graph_of c.args.program.now) b)) c.in-Bound.is ∙ length-bound _ _ ∙ ap (λ r. 32 - r) (sym rows)
+    ap (λ (b : Block). length (block_clauses (graph_of c.args.program.now) b)) c.in-Bound.is ∙ length-bound _ _
+    ∙ ap (λ r. 32 - r) (sym rows)

@@ -9,4 +9,5 @@ invariant_of-self-2 c =
     let i = c.self.inside in
     let le : var_of c.args.lit ≤ i.vars = omega (arith, c.requires.range, ap (λ a. a.vars) c.self.view_is) in
     let free : value_in c.args.lit i.held.items ≡ None = ap (λ a. value_in c.args.lit a.held) c.self.view_is ∙ c.requires.free in
-    rw (c.in_ok-push.ensures.items, c.var.ensures.value, c.is_positive.ensures) (AreKept-push i.vars i.held.items i.signs.items c.args.lit c.self.invariant le free)
+    rw (c.in_ok-push.ensures.items, c.var.ensures.value, c.is_positive.ensures)
+    (AreKept-push i.vars i.held.items i.signs.items c.args.lit c.self.invariant le free)

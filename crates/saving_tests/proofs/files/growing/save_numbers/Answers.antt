@@ -26,5 +26,6 @@ loop-number-preserved g c =
     ap (λ (more : List ℕ). so_far ++ more) line
     ∙ lines_more numbers c.loop-number.number-index c.loop-number-test.true
     ∙ ap (λ (count : ℕ). flat_map line_of (take count numbers)) next in
-    let P : List ℕ → Type 0 = λ text. IsWritten (g.S.Shelf.state c.args.shelf.now) (g.S.Shelf.state c.grow_file.new.shelf) c.args.name.now text in
+    let P : List ℕ → Type 0 =
+    λ text. IsWritten (g.S.Shelf.state c.args.shelf.now) (g.S.Shelf.state c.grow_file.new.shelf) c.args.name.now text in
     subst P grown (c.in-Ok-grow_file.ensures.ok (g.S.Shelf.state c.args.shelf.now) so_far c.loop-number.invariant)

@@ -1,0 +1,46 @@
+//! A list of clauses as a source.
+ghost use Rattle.std.specs.Prelude.{◌≡◌};
+
+use crate::ClauseSource;
+use clause_base::{ClauseList, Lit};
+use io_base::OutOfMemory;
+use smallvec::SmallVec;
+use std::alloc::Global;
+
+/// The clauses of a list.
+#[derive(Drop)]
+pub struct ListSource<'a> {
+    list: &'a ClauseList,
+    given: u128,
+}
+
+impl<'a> ListSource<'a> {
+    /// The clauses of this list, none of them given.
+    pub fn new(list: &'a ClauseList) -> ListSource<'a>
+        ensures list { result.list.now ≡ list.now }
+        ensures given { result.given ≡ 0 }
+    {
+        ListSource { list, given: 0 }
+    }
+}
+
+impl ClauseSource for ListSource<'_> {
+    ghost list = { λ source. source.list.now };
+
+    ghost given = { λ source. source.given };
+
+    fn vars(&self) -> u32 {
+        self.list.vars()
+    }
+
+    fn len(&self) -> u32 {
+        self.list.len()
+    }
+
+    fn clause(&mut self, alloc: Global, number: u32) -> Result<SmallVec<Lit, 8>, OutOfMemory> {
+        let _vars = self.list.vars();
+        let clause = SmallVec::from_slice(alloc, self.list.get(number))?;
+        self.given += clause.len() as u128;
+        Ok(clause)
+    }
+}
