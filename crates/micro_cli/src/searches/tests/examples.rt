@@ -74,14 +74,14 @@ fn count_down_is_placed(rt: HostRuntime) -> Result<(), Fail> {
 #[test]
 fn count_ones_spends_a_small_budget(rt: HostRuntime) -> Result<(), Fail> {
     let mut shelf = MemShelf::new(rt.alloc());
-    let text = b"undecided 3\n";
+    let text = b"undecided 1\n";
     assert!(rt;
         ends(
             rt.alloc(),
             &mut shelf,
             COUNT_ONES,
             (b"", 0),
-            3,
+            1,
             Status::Undecided,
             text
         )
@@ -92,7 +92,7 @@ fn count_ones_spends_a_small_budget(rt: HostRuntime) -> Result<(), Fail> {
 
 #[test]
 fn count_ones_is_refuted_by_a_larger_one(rt: HostRuntime) -> Result<(), Fail> {
-    let accepted = is_accepted(rt.alloc(), COUNT_ONES, 100, b"refuted 15\n");
+    let accepted = is_accepted(rt.alloc(), COUNT_ONES, 100, b"refuted 3\n");
     assert!(rt; accepted.unwrap_or(false));
     Ok(())
 }
