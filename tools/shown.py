@@ -6,10 +6,12 @@ usage: tools/shown.py [--program FILE] [--write] [DOCUMENT ..]
 A command stands in an indented block as a line `$ COMMAND`; the lines below it, to the next command or the block's
 end, are what it prints. A line `..` there stands for any lines that are left out. `./buravelo` is the program, which
 is built first where it is not, or the one that is named.
-All commands of a document run in order in one scratch folder, which has a copy of examples/. With --write the shown
-text is replaced by what came, where nothing is left out of it. Exit status: 0 where all is as shown, else 1.
+All commands of a document run in order in one scratch folder, which has a copy of examples/ and the scripts of tools/;
+those of them that call the program find it in the variable BURAVELO. With --write the shown text is replaced by what
+came, where nothing is left out of it. Exit status: 0 where all is as shown, else 1.
 """
 import argparse
+import os
 import re
 import shutil
 import subprocess
@@ -44,7 +46,7 @@ def printed(command, program, folder):
     """What a command prints on standard output, as lines."""
     script = re.sub(r"(^|[|;&] *)\./buravelo(?= |$)", lambda m: m.group(1) + str(program), command)
     done = subprocess.run(["bash", "-c", script], cwd=folder, stdin=subprocess.DEVNULL, stdout=subprocess.PIPE,
-                          stderr=subprocess.STDOUT, timeout=SECONDS, check=False)
+                          stderr=subprocess.STDOUT, env={**os.environ, "BURAVELO": str(program)}, timeout=SECONDS, check=False)
     return done.stdout.decode("utf-8", "replace").splitlines()
 
 
@@ -63,6 +65,7 @@ def check_document(document, program, write):
     edits, count, wrong = [], 0, 0
     with tempfile.TemporaryDirectory() as folder:
         shutil.copytree(ROOT / "examples", Path(folder) / "examples")
+        (Path(folder) / "tools").symlink_to(ROOT / "tools")
         for place, command, end in commands_of(lines):
             count += 1
             shown = [line[len(INDENT):] for line in lines[place + 1:end]]
