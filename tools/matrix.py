@@ -1,13 +1,13 @@
 #!/usr/bin/env python3
 """Draws a map as a picture: the matrix of 32 rows and 16 columns with its labels, its jumps and its traps.
 
-usage: tools/matrix.py MAP [-o FILE.svg]
+usage: tools/matrix.py MAP [-o FILE.svg] [--only LABEL ..]
 
 MAP is a map, as `make` saves it or `map` prints it. The picture is SVG, and goes to standard output where no file is
 named. Each label stands in its cell with its jump, which leads to each cell that it may reach, in the colour of the
 jump's code; where a value decides, it stands at the arrow's head. A cell that a jump may reach and that has no label
 is a trap, since of a legal placement each such outcome has the target `-`. Rows and columns without labels are drawn
-small. Exit status: 0, or 1 with a line that says what is not as it should be.
+small. With --only there are no jumps but those from and to the labels named. Exit status: 0, or 1 with a line that says what is not as it should be.
 """
 
 import argparse
@@ -82,7 +82,7 @@ def traps_of(placed):
 
 
 def blossom(curve, first, second):
-    """What a curve with one bend is made of: with one share of its way twice, the point there; with two, the bend between them."""
+    """Of a curve with one bend: with one share of its way twice the point there, with two the bend of the piece between."""
     weights = (1 - first) * (1 - second), (1 - first) * second + first * (1 - second), first * second
     return tuple(sum(weight * point[axis] for weight, point in zip(weights, curve)) for axis in (0, 1))
 
@@ -161,13 +161,16 @@ def value_at(points, code, value, label_boxes):
     return f'<text x="{x + 6:.1f}" y="{y + 1:.1f}" {look} text-anchor="middle">{value:x}</text>'
 
 
-def jumps_drawn(grid, placed, traps):
-    """The arrows, those to traps below the others, and the values at their heads."""
+def jumps_drawn(grid, placed, traps, only):
+    """The arrows, those to traps below the others, and the values at their heads; of all jumps, or from and to some labels."""
+    chosen = {(it.row, it.column) for it in placed if not only or it.label in only}
     to_traps, to_labels, values = [], [], []
     label_boxes = [grid.box((it.row, it.column)) for it in placed]
     for it in placed:
         cells = reached(it.code, it.operand, it.row, it.column)
         for value, cell in enumerate(cells):
+            if not chosen & {(it.row, it.column), cell}:
+                continue
             points = way(grid, (it.row, it.column), cell)
             (to_traps if cell in traps else to_labels).append(arrow(points, it.code, cell in traps))
             if len(cells) > 1 and cell not in traps:
@@ -239,15 +242,15 @@ def head_of(code):
     return f'<marker id="{code}" {box}><path d="M0 0L8 4L0 8z" fill="{COLOURS[code]}"/></marker>'
 
 
-def picture(placed):
-    """The picture of a map, as SVG."""
+def picture(placed, only=()):
+    """The picture of a map, as SVG; with all its jumps, or with those from and to some labels alone."""
     traps = traps_of(placed)
     grid = Grid(placed, traps)
     codes = [code for code in CODES if any(it.code == code for it in placed)]
     entries = legend_entries(codes, traps)
     width, bottom = grid.lefts[-1] + MARGIN, grid.tops[-1] + 24
     fit = max(1, (width - LEFT) // LEGEND_WIDTH)
-    arrows, values = jumps_drawn(grid, placed, traps)
+    arrows, values = jumps_drawn(grid, placed, traps, only)
     height = bottom - (-len(entries) // fit) * LEGEND_LINE
     parts = [
         f'<svg xmlns="http://www.w3.org/2000/svg" viewBox="0 0 {width} {height}" width="{width}" height="{height}"'
@@ -265,9 +268,14 @@ def main(words=None):
     options = argparse.ArgumentParser(description=__doc__.splitlines()[0])
     options.add_argument("map")
     options.add_argument("-o", metavar="FILE.svg")
+    options.add_argument("--only", nargs="+", metavar="LABEL", default=[])
     named = options.parse_args(words)
     try:
-        drawn = picture(read_map(named.map))
+        placed = read_map(named.map)
+        missing = set(named.only) - {it.label for it in placed}
+        if missing:
+            raise Fault(f"{named.map}: no label {min(missing)}")
+        drawn = picture(placed, named.only)
         if named.o:
             Path(named.o).write_text(drawn, encoding="utf-8")
         else:

@@ -7,6 +7,7 @@ import xml.etree.ElementTree
 
 import samples
 import saved
+import images
 import jumps
 import matrix
 import repository
@@ -44,6 +45,15 @@ class MatrixTest(samples.SampleTest):
         self.assertEqual([it.text for it in tree.iter(SVG + "title")][0], "trap 0.2")
         colours = {it.get("stroke") for it in tree.iter(SVG + "path") if it.get("marker-end")}
         self.assertEqual(colours, {matrix.COLOURS["JCF"], matrix.COLOURS["JZR"]})
+
+    def test_jumps_from_and_to_some_labels_alone(self):
+        placed = [images.Placed("A", 0, 0, 0x33, "JCR", 3), images.Placed("B", 0, 3, 5, "JCC", 5), images.Placed("C", 5, 3, 5, "JCC", 5)]
+        for only, arrows in [((), 3), (["A"], 1), (["B"], 2), (["C"], 2)]:
+            self.assertEqual(matrix.picture(placed, only).count("marker-end"), arrows, only)
+        self.write("x.map", saved.MAP)
+        with contextlib.redirect_stderr(io.StringIO()) as said:
+            self.assertEqual(matrix.main([str(self.root / "x.map"), "--only", "C"]), 1)
+        self.assertTrue(said.getvalue().endswith("x.map: no label C\n"))
 
     def test_the_middle_of_every_arrow_lies_in_the_picture(self):
         cells = [(row, column) for row in range(32) for column in range(16)]
