@@ -35,6 +35,7 @@ import tempfile
 from dataclasses import dataclass, field
 from pathlib import Path
 
+from images import Fault, read_instructions
 from repository import ROOT
 
 KEYS = ("m", "i", "px", "sx")
@@ -42,10 +43,6 @@ NUMBER = re.compile(r"\d+|0x[0-9a-fA-F]+", re.ASCII)
 NAME = re.compile(r"[A-Za-z_]\w*", re.ASCII)
 MOST_CLOCKS = 65536
 END_OF_HOLD = "-"
-
-
-class Fault(Exception):
-    """What is wrong with a short form, or with what the program was given."""
 
 
 @dataclass
@@ -192,12 +189,12 @@ def labels_told(program, folder, lines, source, clocks):
 
 def settled(short, source, program):
     """The script under which the flow is where the values are given."""
+    missing = set(short.places) - set(read_instructions(source))
+    if missing:
+        raise Fault(f"{source}: no label {min(missing)}")
     with tempfile.TemporaryDirectory() as name:
         folder = Path(name)
-        try:
-            (folder / "source").write_bytes(Path(source).read_bytes())
-        except OSError as cause:
-            raise Fault(f"{source}: {cause.strerror}") from None
+        (folder / "source").write_bytes(Path(source).read_bytes())
         lines, labels = script_of(short, None), None
         for _ in range(short.length() + 2):
             told = labels_told(program, folder, lines, source, short.length())

@@ -16,7 +16,7 @@ clocks = [dict(re.findall(r"(\\w+)=(\\w+)", line.split("#")[0])) for line in ope
 if any(it.get("px") == "99" for it in clocks):
     print("refused script line 2 Value")
     sys.exit(3)
-if open("source").read() != "flow":
+if "NIL" not in open("source").read():
     print("refused source line 1 Shape")
     sys.exit(3)
 label = "GO"
@@ -32,7 +32,7 @@ class ScriptTest(samples.SampleTest):
         super().setUp()
         self.write("stub", STUB.format(calls=self.root / "calls"))
         (self.root / "stub").chmod(0o755)
-        self.write("x.src", "flow")
+        self.write("x.src", "GO:\nDO:\nONE:\nNIL:\nNO:\n")
 
     def run_on(self, text, *options):
         """The exit status, the lines of the script, and what is said on standard error."""
@@ -81,6 +81,7 @@ class ScriptTest(samples.SampleTest):
         self.assertEqual(self.run_on("clocks 3\nat DO px=99\n", *source), (1, [], told))
         self.write("x.src", "other")
         self.assertEqual(self.run_on("clocks 3\n", *source)[2].replace(f"{self.root}/", ""), "script: refused x.src line 1 Shape\n")
+        self.assertEqual(self.run_on("at HERE px=1\n", *source)[2], "script: x.src: no label HERE\n")
         self.assertEqual(self.run_on("clocks 3\n", "--source", "none.src")[2], "script: none.src: No such file or directory\n")
 
     def test_what_is_no_short_form(self):
