@@ -4,11 +4,13 @@
 usage: tools/shown.py [--program FILE] [--write] [DOCUMENT ..]
 
 A command stands in an indented block as a line `$ COMMAND`; the lines below it, to the next command or the block's
-end, are what it prints. A line `..` there stands for any lines that are left out. `./buravelo` is the program, which
-is built first where it is not, or the one that is named.
+end, are what it prints. A line `..` there stands for any lines that are left out. Where a command ends with `<<END`, the
+lines to `END` are what it reads. `./buravelo` is the program, which is built first where it is not, or the one that is
+named.
 All commands of a document run in order in one scratch folder, which has a copy of examples/ and the scripts of tools/;
 those of them that call the program find it in the variable BURAVELO. With --write the shown text is replaced by what
-came, where nothing is left out of it. Exit status: 0 where all is as shown, else 1.
+came, where nothing is left out of it. Then the rows of its tables of mends are tried (tools/mends.py). Exit status: 0
+where all is as shown, else 1.
 """
 import argparse
 import os
@@ -19,26 +21,31 @@ import sys
 import tempfile
 from pathlib import Path
 
+from mends import check_rows
 from repository import ROOT
 
 PROGRAM = "crates/micro_cli/out/micro_cli"
 SAID_WITH_NO_WORDS = "refused words"
-DOCUMENTS = ["README.md", "docs/guide.md"]
+DOCUMENTS = ["README.md", "docs/guide.md", "docs/placing.md", "docs/mending.md"]
 INDENT = "    "
+PROMPT = INDENT + "$ "
 SECONDS = 120
 
 
 def commands_of(lines):
-    """Yields (place of the command's line, command, place behind its shown output) for each command shown."""
+    """Yields (place of a command's last line, the command with what it reads, place behind its output) for each one shown."""
     place = 0
     while place < len(lines):
-        if not lines[place].startswith(INDENT + "$ "):
+        if not lines[place].startswith(PROMPT):
             place += 1
             continue
+        begin = place
+        if lines[begin].endswith(" <<END"):
+            place = lines.index(INDENT + "END", begin)
         end = place + 1
-        while end < len(lines) and lines[end].startswith(INDENT) and not lines[end].startswith(INDENT + "$ "):
+        while end < len(lines) and lines[end].startswith(INDENT) and not lines[end].startswith(PROMPT):
             end += 1
-        yield place, lines[place][len(INDENT) + 2:], end
+        yield place, "\n".join(line[len(INDENT):] for line in lines[begin:place + 1])[len("$ "):], end
         place = end
 
 
@@ -60,7 +67,7 @@ def is_shown(shown, came):
 
 
 def check_document(document, program, write):
-    """Runs the commands of one document. Gives how many there are and how many print something else."""
+    """Runs the commands of one document and tries its rows. Gives how many there are and how many are not as shown."""
     lines = document.read_text(encoding="utf-8").splitlines()
     edits, count, wrong = [], 0, 0
     with tempfile.TemporaryDirectory() as folder:
@@ -76,11 +83,14 @@ def check_document(document, program, write):
             if write and ".." not in shown:
                 edits.append((place + 1, end, [INDENT + line for line in came]))
             print(f"{document.relative_to(ROOT)}:{place + 1}: {command}\n  shown: {shown}\n  came:  {came}")
+        rows, faults = check_rows(lines, Path(folder), lambda words, where: printed(words, program, where))
+        for place, row, fault in faults:
+            print(f"{document.relative_to(ROOT)}:{place + 1}: {row}\n  {fault}")
     for begin, end, text in reversed(edits):
         lines[begin:end] = text
     if edits:
         document.write_text("\n".join(lines) + "\n", encoding="utf-8")
-    return count, wrong
+    return count + rows, wrong + len({place for place, _, _ in faults})
 
 
 def built_program():
@@ -104,7 +114,7 @@ def main():
     for name in words.documents:
         count, failed = check_document(ROOT / name, program, words.write)
         total, wrong = total + count, wrong + failed
-    print(f"shown commands: {total - wrong} as shown, {wrong} not")
+    print(f"shown commands and rows: {total - wrong} as shown, {wrong} not")
     return 1 if wrong or not total else 0
 
 

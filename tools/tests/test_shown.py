@@ -14,6 +14,10 @@ class ShownTest(unittest.TestCase):
         found = [(command, end - place - 1) for place, command, end in shown.commands_of(lines)]
         self.assertEqual(found, [("a", 1), ("b", 0), ("c", 2)])
 
+    def test_lines_to_end_are_read_by_the_command(self):
+        lines = ["    $ a <<END", "    x", "    $ y", "    END", "    z", "    $ b"]
+        self.assertEqual(list(shown.commands_of(lines)), [(3, "a <<END\nx\n$ y\nEND", 5), (5, "b", 6)])
+
     def test_all_lines_count_but_those_left_out(self):
         rows = [([], [], True), (["x"], ["x"], True), (["x"], ["x", "y"], False), (["x", ".."], ["x", "y"], True),
                 (["..", "y"], ["x", "y"], True), (["..", "z"], ["x", "y"], False), ([], ["x"], False)]
