@@ -18,6 +18,7 @@ from repository import ROOT, crates_listed, head_of
 ALLOWED = "tools/unused.txt"
 WORD = re.compile(r"[^\W\d]\w*(?:-\w+)*")
 DECLARED = re.compile(r"(?:abbrev |unfoldable )?(?:pub )?(?:record |data )?(?!use\b|mod\b)([^\W\d][\w-]*)(?= .*(?::|where)(?: |$)| ?$)")
+RULESET = re.compile(r"(?:pub )?ruleset ([\w-]+) =")
 IMPORT = re.compile(r"^ *(?:pub )?(?:ghost )?use [^;{\n]*(?:\{[^}]*\})?[^\n]*\n", re.MULTILINE)
 FUNCTION = re.compile(r"^ *pub (?:const )?fn (\w+)", re.MULTILINE)
 OF_FUNCTIONS = ("Answers.antt", "Invariants.antt", "Proof.antt")
@@ -36,21 +37,48 @@ def without_comments(text, mark):
 
 
 def name_declared(line, before):
-    """The name that a line of a file declares, or none: it stands at the line's start, with its type."""
-    found = None if line.startswith(" ") else DECLARED.match(line)
+    """The name that a line of a file declares, or none: it stands at the line's start, with its type, or names a ruleset."""
+    found = None if line.startswith(" ") else RULESET.match(line) or DECLARED.match(line)
     return found[1] if found and found[1] not in (before, "unfolding", "module") else None
 
 
-def blocks_of(crate, module, text):
-    """A file of definitions or lemmas, cut at what it declares, each with the names in it."""
-    blocks, name, lines = [], None, []
-    for line in without_comments(text, "--").splitlines():
+def parts_of(lines):
+    """A file cut at each `module .. where`: the names in that head, none outside, and the lines as if they stood outside."""
+    parts, head = [(set(), [])], None
+    for line in lines:
+        if line.startswith("module "):
+            head = []
+        if head is not None:
+            head.append(line)
+            if line.endswith("where"):
+                parts.append((words_of("\n".join(head)), []))
+                head = None
+            continue
+        if parts[-1][0] and line and not line.startswith(" "):
+            parts.append((set(), []))
+        parts[-1][1].append(line[2:] if parts[-1][0] else line)
+    return parts
+
+
+def cut(lines):
+    """Lines cut at what they declare: each name with the names in it, and none for what stands before the first."""
+    name, block = None, []
+    for line in lines:
         declared = name_declared(line, name)
         if declared:
-            blocks.append(Block(crate, module, name, words_of("\n".join(lines))))
-            name, lines = declared, []
-        lines.append(line)
-    return [*blocks, Block(crate, module, name, words_of("\n".join(lines)))][1:]
+            yield name, words_of("\n".join(block))
+            name, block = declared, []
+        block.append(line)
+    yield name, words_of("\n".join(block))
+
+
+def blocks_of(crate, module, text):
+    """A file of definitions or lemmas, cut at what it declares, each with the names in it and in the head around it."""
+    return [
+        Block(crate, module, name, words | head)
+        for head, lines in parts_of(without_comments(text, "--").splitlines())
+        for name, words in cut(lines) if name
+    ]
 
 
 def sources(root, crate, ending):

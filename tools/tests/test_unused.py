@@ -37,6 +37,33 @@ by_steps a = a
 dead_end : ℕ → ℕ
 dead_end a = dead_end a
 """
+MODULE = """\
+pub InHead : ℕ → Type 0
+InHead a = Unit {0}
+
+module _ (a : ℕ)
+    (h : InHead a) where
+
+  pub inside : ℕ
+  inside = from_inside
+    where
+      from_inside : ℕ
+      from_inside = behind
+
+  never : ℕ
+  never = by_never
+
+behind : ℕ
+behind = zero
+
+by_rule : ℕ
+by_rule = zero
+
+pub ruleset rules = (by_rule)
+
+by_never : ℕ
+by_never = zero
+"""
 CODE = """\
 //! What is below. Layer: outside.
 //!
@@ -70,6 +97,12 @@ class UnusedTest(samples.SampleTest):
 
     def test_lists_what_neither_code_nor_proofs_lead_to(self):
         names = ["called_here", "Lost", "dead_end"]
+        self.assertEqual(self.rows(), (1, [f"low {name}: nothing uses it" for name in names]))
+
+    def test_looks_into_modules(self):
+        self.write("crates/low/proofs/Inner.antt", MODULE)
+        self.write("crates/low/proofs/law/Answers.antt", "pub returns : goal.returns\nreturns c = inside rules\n")
+        names = ["called_here", "Lost", "never", "by_never", "dead_end"]
         self.assertEqual(self.rows(), (1, [f"low {name}: nothing uses it" for name in names]))
 
     def test_allowed_names_and_modules_are_left_out(self):
