@@ -107,8 +107,8 @@ def main():
     options.add_argument("documents", nargs="*", default=DOCUMENTS)
     words = options.parse_args()
     program = Path(words.program).resolve() if words.program else built_program()
-    if program is None:
-        print("the program was not built")
+    if program is None or not os.access(program, os.X_OK):
+        print("the program is not built")
         return 1
     total, wrong = 0, 0
     for name in words.documents:

@@ -33,14 +33,14 @@ class GateTest(samples.SampleTest):
         return ended.returncode, ended.stdout.splitlines()
 
     def test_all_checks_run_after_the_toolchain(self):
-        calls = ["rt ci", "definitions.py --check", "promises.py --check", "links.py ", "shown.py "]
+        calls = ["rt ci", "definitions.py --check", "promises.py --check", "links.py ", "shown.py --program crates/micro_cli/out/micro_cli"]
         self.assertEqual(self.run_gate(), (0, [*calls, "the gate has passed"]))
 
     def test_status_of_the_toolchain_is_kept(self):
         self.stub("bin/rt", 3)
         self.stub("tools/shown.py", 2)
         status, lines = self.run_gate()
-        self.assertEqual((status, lines[0], lines[-1]), (3, "rt ci", "the gate fails at: tools/shown.py"))
+        self.assertEqual((status, lines[0], lines[-1]), (3, "rt ci", "the gate fails at: tools/shown.py --program crates/micro_cli/out/micro_cli"))
 
     def test_each_check_alone_fails_the_gate(self):
         for script in SCRIPTS:
