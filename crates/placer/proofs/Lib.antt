@@ -14,6 +14,7 @@ pub mod SettledModel
 pub mod Refuted
 pub mod MarkSteps
 pub mod FalseEntries
+pub mod KnownPlaces
 pub mod MarkedPlaces
 pub mod Resolving
 pub mod Closing

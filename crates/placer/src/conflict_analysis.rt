@@ -13,19 +13,6 @@ use propagate::Board;
 use std::alloc::Global;
 use trail::Trail;
 
-/// The place of each assigned variable on the trail.
-pub(crate) fn places_of(alloc: Global, board: &Board) -> Result<Vec<usize>, OutOfMemory>
-    ensures { IfOk result (λ places. ArePlaces board.now.list.vars board.now.trail.entries places.items) }
-{
-    let trail = board.trail();
-    let mut places = vec![in alloc; 0; board.list().vars() as usize + 1]?;
-    for index in 0..trail.len() {
-        let var = trail.entry(index).lit.var();
-        places[var as usize] = index;
-    }
-    Ok(places)
-}
-
 /// Marks the places of a clause's literals.
 pub(crate) fn mark_clause(places: &[usize], clause: &[Lit], marks: &mut [bool])
     requires { All (IsWithin places.now (length marks.old)) clause.now }

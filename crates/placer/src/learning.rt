@@ -9,11 +9,11 @@ ghost use Rattle.placer.specs.FirstPoint.{IsFirstPointClause};
 ghost use Rattle.placer.specs.Learning.{Asserts};
 ghost use Rattle.placer.specs.Marking.{ArePlaces};
 ghost use Rattle.placer.specs.Progress.{Learns};
+ghost use Rattle.placer.specs.Ready.{IsReady};
 
-use crate::conflict_analysis::{
-    back_of, close_marks, first_point, mark_clause, marked_line, places_of,
-};
+use crate::conflict_analysis::{back_of, close_marks, first_point, mark_clause, marked_line};
 use crate::turns::Turns;
+use crate::workspace::{Workspace, unmark};
 use clause_base::Line;
 use io_base::OutOfMemory;
 use propagate::Board;
@@ -66,12 +66,41 @@ pub fn analyse(alloc: Global, board: &Board, conflict: u32) -> Result<Learnt, Ou
     ensures asserts { IfOk result (λ learnt. Asserts board.now.trail.entries learnt.line.clause learnt.back) }
     ensures first_point { IfOk result (λ learnt. IsFirstPointClause board.now.list.clauses board.now.trail.entries conflict learnt.line.clause) }
 {
+    let mut workspace = Workspace::new(alloc, board)?;
+    analyse_in(alloc, board, conflict, &mut workspace)
+}
+
+/// The same, on a workspace that is ready, and is ready again afterwards.
+pub(crate) fn analyse_in(
+    alloc: Global,
+    board: &Board,
+    conflict: u32,
+    workspace: &mut Workspace,
+) -> Result<Learnt, OutOfMemory>
+    requires above { 0 < level_of board.now.trail.entries }
+    requires conflict { IsConflict (lits_of board.now.trail.entries) board.now.list.clauses conflict }
+    requires ready { IsReady board.now.list.vars board.now.trail.entries workspace.old }
+    ensures derived { IfOk result (λ learnt. Derived board.now.list learnt.line) }
+    ensures full { IfOk result (λ learnt. learnt.line.clause ≢ []) }
+    ensures new { IfOk result (λ learnt. IsNew board.now.list.clauses learnt.line.clause) }
+    ensures asserts { IfOk result (λ learnt. Asserts board.now.trail.entries learnt.line.clause learnt.back) }
+    ensures first_point { IfOk result (λ learnt. IsFirstPointClause board.now.list.clauses board.now.trail.entries conflict learnt.line.clause) }
+    ensures places { OnOk result (ArePlaces board.now.list.vars board.now.trail.entries workspace.new.places.items) }
+    ensures blank { OnOk result (workspace.new.marks.items ≡ replicate (board.now.list.vars + 1) false) }
+{
     let vars = board.list().vars();
     // A proof learns here that the trail is in order.
     let _ordered = board.trail().len();
-    let places = places_of(alloc, board)?;
-    let mut marks = vec![in alloc; false; vars as usize + 1]?;
-    learnt_by(alloc, board, conflict, &places, &mut marks)
+    workspace.follow(board);
+    let learnt = learnt_by(
+        alloc,
+        board,
+        conflict,
+        &workspace.places,
+        &mut workspace.marks,
+    )?;
+    unmark(&mut workspace.marks);
+    Ok(learnt)
 }
 
 // The line of a conflict at level 0, by the places of variables on the trail and marks that are set nowhere yet.
@@ -103,10 +132,15 @@ pub(crate) fn last_line(alloc: Global, board: &Board, conflict: u32) -> Result<L
     ensures empty { IfOk result (λ line. line.clause ≡ []) }
     ensures derived { IfOk result (λ line. Derived board.now.list line) }
 {
-    let vars = board.list().vars();
-    let places = places_of(alloc, board)?;
-    let mut marks = vec![in alloc; false; vars as usize + 1]?;
-    last_line_by(alloc, board, conflict, &places, &mut marks)
+    let mut workspace = Workspace::new(alloc, board)?;
+    workspace.follow(board);
+    last_line_by(
+        alloc,
+        board,
+        conflict,
+        &workspace.places,
+        &mut workspace.marks,
+    )
 }
 
 /// Learns from a conflict above level 0, after a return to the level that the line names.
@@ -115,19 +149,23 @@ pub(crate) fn learn_from(
     board: &mut Board,
     lines: &mut Vec<Line>,
     turns: &mut Turns,
+    workspace: &mut Workspace,
     conflict: u32,
 ) -> Result<(), OutOfMemory>
     requires above { 0 < level_of board.old.trail.entries }
     requires conflict { IsConflict (lits_of board.old.trail.entries) board.old.list.clauses conflict }
     requires few { length board.old.list.clauses < 2 ^ 32 - 1 }
-    ensures { OnOk result (Learns board.old board.new lines.old.items lines.new.items) }
+    requires ready { IsReady board.old.list.vars board.old.trail.entries workspace.old }
+    ensures learns { OnOk result (Learns board.old board.new lines.old.items lines.new.items) }
+    ensures ready { OnOk result (IsReady board.new.list.vars board.new.trail.entries workspace.new) }
 {
     // A proof learns here that the trail is in order.
     let _ordered = board.trail().len();
-    let learnt = analyse(alloc, board, conflict)?;
+    let learnt = analyse_in(alloc, board, conflict, workspace)?;
     turns.put_back_above(board.trail(), learnt.back);
     turns.count_conflict();
     board.back_to(learnt.back);
+    workspace.keep(board.trail().len());
     board.learn(learnt.line.clause.as_slice())?;
     lines.push(learnt.line)?;
     Ok(())

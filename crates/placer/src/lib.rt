@@ -21,6 +21,7 @@ mod placing;
 mod program_orders;
 mod searching;
 mod turns;
+mod workspace;
 
 pub use learning::{Learnt, analyse};
 pub use placing::{Placed, place};

@@ -9,25 +9,34 @@ use Rattle.trail.specs.Assignment.{Assignment, IsTrail, IsLevelled}
 use Rattle.trail.proofs.Levels.{IsTrail-levelled}
 use Rattle.propagate.specs.Standing.{Standing, IsSound}
 use Rattle.placer.proofs.ChangedPlaces.{get_set_same, get_set_other}
-use Rattle.placer.proofs.conflict_analysis.places_of.Goals as goal
+use Rattle.placer.proofs.KnownPlaces.{among_first}
+use Rattle.placer.proofs.workspace.note_places.Goals as goal
 
 in-range : (b : Standing) (read : Assignment) (i : ℕ) (e : Entry) → read ≡ b.trail → IsSound b → IsTrail read.vars read.entries
     → slice_get read.entries i ≡ Some e → var_of e.lit ≤ b.list.vars
 in-range b read i e value sound t there =
     subst (λ (v : ℕ). var_of e.lit ≤ v) (ap (λ (a : Assignment). a.vars) value ∙ sound.same_vars) (t i e there).in_range
 
-pub index_mut-requires : goal.index_mut-requires
-index_mut-requires c =
+pub loop-index-init : goal.loop-index-init
+loop-index-init c = record {
+  sized = c.requires.told.sized;
+  told = λ i e lt there. c.requires.told.told i e
+      (among_first c.args.board.now.trail.entries c.args.known i e c.requires.within lt
+      (ap (λ (a : Assignment). slice_get a.entries i) (sym c.trail-trail.ensures.trail) ∙ there));
+}
+
+pub bounds-places-var : goal.bounds-places-var
+bounds-places-var c =
     let low : var_of c.entry.result.lit ≤ c.args.board.now.list.vars =
     in-range c.args.board.now c.trail-trail.result.now c.loop-index.index c.entry.result c.trail-trail.ensures.trail
     c.trail-trail.ensures.sound c.len-index-end.ensures.ordered c.entry.ensures in
-    let size : length c.loop-index.places.items ≡ c.args.board.now.list.vars + 1 = c.loop-index.invariant.sized in
-    omega (arith, low, size, c.var-var.ensures.value, c.loop-index.places.ok)
+    let size : length c.loop-index.places ≡ c.args.board.now.list.vars + 1 = c.loop-index.invariant.sized in
+    omega (arith, low, size, c.var-var.ensures.value)
 
 pub loop-index-preserved : goal.loop-index-preserved
 loop-index-preserved c =
     let es = c.trail-trail.result.now.entries in
-    let places = c.loop-index.places.items in
+    let places = c.loop-index.places in
     let i = c.loop-index.index in
     let e = c.entry.result in
     let v = c.var-var.result in
