@@ -9,6 +9,7 @@ pub mod NewLine
 pub mod LineCodes
 pub mod FewLines
 pub mod Growing
+pub mod HintLines
 pub mod SpentClash
 pub mod SettledModel
 pub mod Refuted

@@ -14,7 +14,7 @@ ghost use Rattle.placer.specs.Ready.{IsReady};
 use crate::conflict_analysis::{back_of, close_marks, first_point, mark_clause, marked_line};
 use crate::turns::Turns;
 use crate::workspace::{Workspace, unmark};
-use clause_base::Line;
+use clause_base::{Line, Numbers};
 use io_base::OutOfMemory;
 use propagate::Board;
 use std::alloc::Global;
@@ -143,11 +143,12 @@ pub(crate) fn last_line(alloc: Global, board: &Board, conflict: u32) -> Result<L
     )
 }
 
-/// Learns from a conflict above level 0, after a return to the level that the line names.
+/// Learns from a conflict above level 0, after a return to the level that the line names. The board keeps the line's
+/// clause, and `hints` its hints.
 pub(crate) fn learn_from(
     alloc: Global,
     board: &mut Board,
-    lines: &mut Vec<Line>,
+    hints: &mut Vec<Numbers>,
     turns: &mut Turns,
     workspace: &mut Workspace,
     conflict: u32,
@@ -156,7 +157,7 @@ pub(crate) fn learn_from(
     requires conflict { IsConflict (lits_of board.old.trail.entries) board.old.list.clauses conflict }
     requires few { length board.old.list.clauses < 2 ^ 32 - 1 }
     requires ready { IsReady board.old.list.vars board.old.trail.entries workspace.old }
-    ensures learns { OnOk result (Learns board.old board.new lines.old.items lines.new.items) }
+    ensures learns { OnOk result (Learns board.old board.new hints.old.items hints.new.items) }
     ensures ready { OnOk result (IsReady board.new.list.vars board.new.trail.entries workspace.new) }
 {
     // A proof learns here that the trail is in order.
@@ -166,7 +167,8 @@ pub(crate) fn learn_from(
     turns.count_conflict();
     board.back_to(learnt.back);
     workspace.keep(board.trail().len());
-    board.learn(learnt.line.clause.as_slice())?;
-    lines.push(learnt.line)?;
+    let line = learnt.line;
+    board.learn(line.clause.as_slice())?;
+    hints.push(line.hints)?;
     Ok(())
 }
