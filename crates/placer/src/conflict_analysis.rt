@@ -130,6 +130,31 @@ fn close_at(board: &Board, places: &[usize], place: usize, marks: &mut [bool])
     mark_clause(places, reason, marks);
 }
 
+// Where the entries of level 0 end, all of which stand before a place. Levels never fall along the trail, so it is found
+// by halving.
+fn end_of_level_zero(board: &Board, end: usize) -> usize
+    requires within { end ≤ length board.now.trail.entries }
+    requires begun { (i : ℕ) (e : Entry) → end ≤ i → slice_get board.now.trail.entries i ≡ Some e → 0 < e.level }
+    ensures within { result ≤ end }
+    ensures begun { (i : ℕ) (e : Entry) → result ≤ i → slice_get board.now.trail.entries i ≡ Some e → 0 < e.level }
+{
+    let trail = board.trail();
+    // A proof learns here that the trail is in order.
+    let _ordered = trail.len();
+    let mut low = 0;
+    let mut high = end;
+    'halving: while low < high {
+        let middle = low + (high - low) / 2;
+        let entry = trail.entry(middle);
+        if entry.level == 0 {
+            low = middle + 1;
+        } else {
+            high = middle;
+        }
+    }
+    high
+}
+
 /// Marks the reasons of marked entries of level 0, all of which stand before a place.
 pub(crate) fn close_marks(board: &Board, places: &[usize], point: usize, marks: &mut [bool])
     requires places { ArePlaces board.now.list.vars board.now.trail.entries places.now }
@@ -138,7 +163,7 @@ pub(crate) fn close_marks(board: &Board, places: &[usize], point: usize, marks: 
     requires begun { (i : ℕ) (e : Entry) → point ≤ i → slice_get board.now.trail.entries i ≡ Some e → 0 < e.level }
     ensures { Closes board.now.list.clauses board.now.trail.entries places.now 0 marks.old marks.new }
 {
-    let mut place = point;
+    let mut place = end_of_level_zero(board, point);
     'back: while 0 < place {
         place -= 1;
         close_at(board, places, place, marks);
