@@ -49,7 +49,8 @@ pub length_hints : (list : Clauses) (b : Standing) (hints : List (List ℕ)) (k 
 length_hints list b hints k = ap length k.told ∙ length-map k.lines hints_of
 
 -- and no more than clauses
-pub length_hints_le : (list : Clauses) (b : Standing) (hints : List (List ℕ)) → HasHints list b hints → length hints ≤ length b.list.clauses
+pub length_hints_le : (list : Clauses) (b : Standing) (hints : List (List ℕ)) → HasHints list b hints
+    → length hints ≤ length b.list.clauses
 length_hints_le list b hints k =
     omega (
       arith,

@@ -21,7 +21,8 @@ hints-preserved c =
     let lt : length c.hints.yielded < length c.args.hints.items = t.0 in
     let at : c.hints.number ≡ length c.args.list.now.clauses - length c.args.hints.items + length c.hints.yielded =
     c.hints.invariant.at in
-    let index : c.hints.number + 1 - 1 ≡ length c.args.list.now.clauses - length c.args.hints.items + length c.hints.yielded = omega arith in
+    let index : c.hints.number + 1 - 1 ≡ length c.args.list.now.clauses - length c.args.hints.items + length c.hints.yielded =
+    omega arith in
     let there : slice_get clauses (from + done) ≡ Some clause =
     subst (λ (n : ℕ). slice_get clauses n ≡ Some clause) index c.get.ensures.clause in
     let is : get_or (drop from clauses) done clause ≡ clause =
