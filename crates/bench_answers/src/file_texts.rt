@@ -10,7 +10,7 @@ use bpnf::{Prom, print};
 use bus_bench::programs_have_graphs;
 use field_decl::print_decl;
 use flow_graph::Program;
-use io_base::OutOfMemory;
+use io_base::{GIVEN_NAME_LIMIT, OutOfMemory};
 use place_model::{Placement, map_text};
 use prom_split::{split, words_of};
 use saved_files::{Text, placed_files};
@@ -34,7 +34,7 @@ pub(crate) fn files_of(
     program: &Program,
     placement: &Placement,
 ) -> Result<Vec<Text>, OutOfMemory>
-    requires out_short { length out.now ≤ 200 }
+    requires out_short { length out.now ≤ GIVEN_NAME_LIMIT }
     requires legal { IsLegal (graph_of program.now) placement.now }
     ensures files { IfOk result (λ files. PlacesFiles out.now (graph_of program.now) placement.now files.items) }
     ensures apart { IfOk result (λ files. AreApart files.items) }

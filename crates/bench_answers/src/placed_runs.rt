@@ -21,7 +21,7 @@ use crate::traces::write_trace;
 use bus_bench::bad_shift;
 use bus_script::Script;
 use flow_graph::Program;
-use io_base::{Failed, OutOfMemory, Shelf, Sink, put_all};
+use io_base::{Failed, GIVEN_NAME_LIMIT, OutOfMemory, Shelf, Sink, put_all};
 use place_model::Placement;
 use prom_files::{SavedWords, load_words};
 use replies::{Status, say, say_no_memory, say_stop, script_from};
@@ -31,7 +31,7 @@ use std::alloc::Global;
 /// Where a placement is saved and how it is run.
 #[derive(Clone, Copy)]
 pub struct PlacedRun<'a> {
-    /// The name of the output, of at most 200 bytes.
+    /// The name of the output, of at most `GIVEN_NAME_LIMIT` bytes.
     pub out: &'a str,
     /// The name of the script, which a refusal of its bytes tells; the file is not read again.
     pub script: &'a str,
@@ -85,7 +85,7 @@ fn read_back<S: Shelf, K: Sink>(
     asked: PlacedRun<'_>,
     bytes: &[u8],
 ) -> Status
-    requires out_short { length asked.out.now ≤ 200 }
+    requires out_short { length asked.out.now ≤ GIVEN_NAME_LIMIT }
     requires small { length bytes.now < 2 ^ 32 }
     ensures ends { Ends (OrWants (MayRun asked.entry.out.now bytes.now (S.state shelf.old) (S.state shelf.new)) (BackReply asked.entry.out.now asked.entry.script.now bytes.now asked.entry.clocks (S.state shelf.old) (S.state shelf.new)))
         (K.state out.old) (K.state out.new) result }
@@ -124,7 +124,7 @@ fn save_files<S: Shelf, K: Sink>(
     bytes: &[u8],
     files: &[Text],
 ) -> Status
-    requires out_short { length asked.out.now ≤ 200 }
+    requires out_short { length asked.out.now ≤ GIVEN_NAME_LIMIT }
     requires small { length bytes.now < 2 ^ 32 }
     requires apart { AreApart files.now }
     requires short { AreShort files.now }
@@ -160,7 +160,7 @@ pub fn save_and_run<S: Shelf, K: Sink>(
     placement: &Placement,
     script_bytes: &[u8],
 ) -> Status
-    requires out_short { length asked.out.now ≤ 200 }
+    requires out_short { length asked.out.now ≤ GIVEN_NAME_LIMIT }
     requires small { length script_bytes.now < 2 ^ 32 }
     requires legal { IsLegal (graph_of program.now) placement.now }
     ensures ends { Ends (PlacedAnswer asked.entry.out.now asked.entry.script.now script_bytes.now asked.entry.clocks (graph_of program.now) placement.now (S.state shelf.old) (S.state shelf.new))

@@ -11,7 +11,7 @@ use crate::shift_refusal::refuse_shift;
 use crate::traces::write_trace;
 use bus_bench::bad_shift;
 use bus_script::Script;
-use io_base::{Shelf, Sink};
+use io_base::{GIVEN_NAME_LIMIT, NAME_LIMIT, Shelf, Sink};
 use prom_files::{SavedWords, load_words};
 use replies::{Status, Stop, load_script, say_stop};
 use std::alloc::Global;
@@ -30,8 +30,8 @@ fn load_bench<S: Shelf>(
     out: &str,
     script: &str,
 ) -> Result<BenchInputs, Stop>
-    requires out_short { length out.now ≤ 200 }
-    requires script_short { length script.now ≤ 220 }
+    requires out_short { length out.now ≤ GIVEN_NAME_LIMIT }
+    requires script_short { length script.now ≤ NAME_LIMIT }
     ensures step { MatchResult result
         (λ inputs. HasBench out.now script.now (S.state shelf.old) (S.state shelf.new) (declaration_of inputs.saved.decl) inputs.saved.words inputs.script)
         (StopsBy (BenchInputsReply out.now script.now (S.state shelf.old) (S.state shelf.new))) }
@@ -68,8 +68,8 @@ fn write_run<K: Sink>(
 }
 
 /// Answers `run OUT SCRIPT clocks=N`: the trace of the images saved under `name`, or the reply that refuses the first
-/// file that is not had, or the first cell whose word orders the right shift with K bits other than 0. `name` has at
-/// most 200 bytes, so that its suffixes fit a shelf's names, and `script` at most 220. No file changes.
+/// file that is not had, or the first cell whose word orders the right shift with K bits other than 0. `name` is one
+/// that may be given, so that with its suffixes it fits a shelf, and `script` one that a shelf takes. No file changes.
 pub fn run_saved<S: Shelf, K: Sink>(
     alloc: Global,
     shelf: &mut S,
@@ -78,8 +78,8 @@ pub fn run_saved<S: Shelf, K: Sink>(
     script: &str,
     clocks: u32,
 ) -> Status
-    requires out_short { length name.now ≤ 200 }
-    requires script_short { length script.now ≤ 220 }
+    requires out_short { length name.now ≤ GIVEN_NAME_LIMIT }
+    requires script_short { length script.now ≤ NAME_LIMIT }
     ensures ends { Ends (OrNoMemory (RunReply name.now script.now clocks (S.state shelf.old) (S.state shelf.new)))
         (K.state out.old) (K.state out.new) result }
     ensures same { (S.state shelf.new).file ≡ (S.state shelf.old).file }

@@ -39,7 +39,15 @@ pub loading_starts : (shelf : ShelfState) (name bytes : List ℕ) → bytes ≡ 
 loading_starts shelf name bytes is_empty =
     let P : List ℕ → Type 0 = λ b. IsLoading shelf shelf name b in
     subst P (sym is_empty) (record {
-      goes_on = record { later = omega arith; taken = omega arith; absent = omega arith; tells = refl; honest = refl };
+      goes_on = record {
+        later = omega arith;
+        taken = omega arith;
+        absent = omega arith;
+        creates = omega arith;
+        appends = omega arith;
+        tells = refl;
+        honest = refl;
+      };
       same = refl;
       taken = counted-zero shelf.taken;
       absent = refl;
@@ -74,6 +82,8 @@ loading_goes_on old now new name bytes buf more at n here so_far goes_on same co
         later = omega arith;
         taken = omega (arith, so_far.goes_on.taken, goes_on.taken);
         absent = omega (arith, so_far.goes_on.absent, goes_on.absent);
+        creates = omega (arith, so_far.goes_on.creates, goes_on.creates);
+        appends = omega (arith, so_far.goes_on.appends, goes_on.appends);
         tells = cc;
         honest = cc;
       };

@@ -49,11 +49,13 @@ pub record SameButFiles (old new : ShelfState) : Type 0 where
   pub tells : new.tells ≡ old.tells
   pub honest : new.honest ≡ old.honest
 
--- what every call keeps: no count of faults or of reads falls, and the shelf stays of its kind
+-- what every call keeps: no count falls, and the shelf stays of its kind
 pub record GoesOn (old new : ShelfState) : Type 0 where
   pub later : old.faults ≤ new.faults
   pub taken : old.taken ≤ new.taken
   pub absent : old.absent ≤ new.absent
+  pub creates : old.creates ≤ new.creates
+  pub appends : old.appends ≤ new.appends
   pub tells : new.tells ≡ old.tells
   pub honest : new.honest ≡ old.honest
 

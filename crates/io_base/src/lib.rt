@@ -5,7 +5,7 @@
 //! rose in that call, and a shelf's last failed name is then the name of that call; a call that does not fail leaves
 //! both. A loaded file is the whole file of a shelf that tells its files, and just its bytes were taken; a file is
 //! refused as absent or too long exactly where a read said so or more bytes than the limit were taken. `put_all` adds
-//! the whole piece to a sink, and tries no failed write again.
+//! the whole piece to a sink, and where it does, no write failed.
 //!
 //! A shelf *tells its files* where contracts see their bytes, and is *honest* where `create` and `append` do to a
 //! file what they say. `MemShelf`, in memory, does both. Of `FileShelf`, the system's files, neither is assumed.
@@ -23,6 +23,7 @@ mod loading;
 mod mem_files;
 mod mem_shelf;
 mod mem_sink;
+mod names;
 mod shelf_counts;
 mod shelves;
 mod sinks;
@@ -34,6 +35,7 @@ pub use listed::Listed;
 pub use loading::{LoadFault, load};
 pub use mem_shelf::{CallKind, MemShelf};
 pub use mem_sink::MemSink;
+pub use names::{GIVEN_NAME_LIMIT, NAME_LIMIT};
 pub use shelves::Shelf;
 pub use sinks::{Sink, put_all};
 pub use std_sink::StdSink;

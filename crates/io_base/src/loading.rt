@@ -4,7 +4,7 @@ ghost use Rattle.io_base.specs.Causes.{Rose};
 ghost use Rattle.io_base.specs.Shelf.{GoesOn, CountsTaken, CountsNoChange};
 ghost use Rattle.io_base.specs.Loading.{IsWhole, ExplainsFault, TookMore};
 
-use crate::{Failed, Shelf};
+use crate::{Failed, NAME_LIMIT, Shelf};
 use std::alloc::Global;
 use thiserror::Error;
 
@@ -37,7 +37,7 @@ pub fn load<S: Shelf>(
     name: &str,
     limit: u64,
 ) -> Result<Vec<u8>, LoadFault>
-    requires { length name.now ≤ 220 }
+    requires { length name.now ≤ NAME_LIMIT }
 
     // What a shelf that tells its files says of the answer.
     ensures told { IsTrue (S.state shelf.old).tells → MatchResult result

@@ -7,7 +7,7 @@ ghost use Rattle.io_base.specs.Shelf.{IsTold, IsUncounted, SameButFiles, GoesOn,
 use crate::call_plan::CallPlan;
 use crate::mem_files::{MemFiles, add, copy_from, put};
 use crate::shelf_counts::ShelfCounts;
-use crate::{Failed, OutOfMemory, Shelf};
+use crate::{Failed, NAME_LIMIT, OutOfMemory, Shelf};
 use std::alloc::Global;
 use std::collections::BTreeMap;
 
@@ -117,7 +117,7 @@ impl Shelf for MemShelf {
 
     /// Fails just where this read is to fail. It gives as many bytes as there are, fit and may be given at a time.
     fn read_at(&mut self, name: &str, at: u64, buf: &mut [u8]) -> Result<Option<usize>, Failed>
-        requires { length name.now ≤ 220 }
+        requires { length name.now ≤ NAME_LIMIT }
         ensures bound { IfOk result (λ count. IfSome count (λ n. n ≤ length buf.new)) }
         ensures told { IfOk result
             (λ count. Reads ((shelf_of self.old).file name.now) at count buf.new) }
@@ -153,7 +153,7 @@ impl Shelf for MemShelf {
 
     /// Fails where this create is to fail, and where memory is refused. The file is then as before.
     fn create(&mut self, name: &str) -> Result<(), Failed>
-        requires { length name.now ≤ 220 }
+        requires { length name.now ≤ NAME_LIMIT }
         ensures ok { OnOk result ((shelf_of self.new).file name.now ≡ Some []) }
         ensures err { OnErr result
             ((shelf_of self.new).file name.now ≡ (shelf_of self.old).file name.now) }
@@ -180,7 +180,7 @@ impl Shelf for MemShelf {
     /// Fails where this append is to fail, which keeps the first half of the piece, and where memory is
     /// refused, which keeps nothing of it.
     fn append(&mut self, name: &str, piece: &[u8]) -> Result<(), Failed>
-        requires { length name.now ≤ 220 }
+        requires { length name.now ≤ NAME_LIMIT }
         ensures ok { OnOk result
             (Appends (shelf_of self.old) (shelf_of self.new) name.now piece.now) }
         ensures err { OnErr result (AppendsHalf self.old self.new name.now piece.now) }

@@ -2,6 +2,7 @@
 ghost use Rattle.std.specs.Prelude.{◌≡◌, ◌≤◌, [], length};
 ghost use Rattle.io_base.specs.Causes.{counted};
 
+use crate::NAME_LIMIT;
 use arrayvec::ArrayVec;
 use std::marker::Model;
 
@@ -9,7 +10,7 @@ use std::marker::Model;
 #[derive(Drop)]
 pub struct ShelfCounts {
     faults: u64,
-    last_failed: ArrayVec<u8, 220>,
+    last_failed: ArrayVec<u8, NAME_LIMIT>,
     taken: u64,
     absent: u64,
     creates: u64,
@@ -48,7 +49,7 @@ impl ShelfCounts {
 
     /// Counts a call with this name that failed.
     pub fn count_fault(&mut self, name: &str)
-        requires { length name.now ≤ 220 }
+        requires { length name.now ≤ NAME_LIMIT }
         ensures { self.new ≡ record self.old {
           faults = counted self.old.faults 1;
           last_failed = name.now;

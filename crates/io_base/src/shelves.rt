@@ -2,7 +2,7 @@
 ghost use Rattle.std.specs.Prelude.{◌≡◌, ◌≤◌, [], length, IsTrue, Some, IfOk, IfSome, OnOk, OnErr};
 ghost use Rattle.io_base.specs.Shelf.{ShelfState, GoesOn, HasCause, CountsRead, CountsNoRead, CountsChanges, CountsNoChange, Reads, KeepsOthers, IsTold, Appends, AppendsPrefix, IsKeptOrEmpty};
 
-use crate::Failed;
+use crate::{Failed, NAME_LIMIT};
 
 /// Named files that are read at any place, made empty, and added to at their end. A name has at most 220 bytes: the 200
 /// of a name on the command line, a suffix of at most 10, and some to spare (this project's own choice).
@@ -17,7 +17,7 @@ pub trait Shelf {
     ///
     /// The answer is how many, or `None` where the name is not there, which is no fault. No file changes.
     fn read_at(&mut self, name: &str, at: u64, buf: &mut [u8]) -> Result<Option<usize>, Failed>
-        requires { length name.now ≤ 220 }
+        requires { length name.now ≤ NAME_LIMIT }
         ensures bound { IfOk result (λ count. IfSome count (λ n. n ≤ length buf.new)) }
         ensures told { IsTrue (state self.old).tells → IfOk result
             (λ count. Reads ((state self.old).file name.now) at count buf.new) }
@@ -30,7 +30,7 @@ pub trait Shelf {
     /// Makes the file `name` empty, whether or not it was there. After `Failed` the file of an honest shelf is as it was,
     /// or empty.
     fn create(&mut self, name: &str) -> Result<(), Failed>
-        requires { length name.now ≤ 220 }
+        requires { length name.now ≤ NAME_LIMIT }
         ensures ok { IsTold (state self.old) →
             OnOk result ((state self.new).file name.now ≡ Some []) }
         ensures err { IsTold (state self.old) →
@@ -44,7 +44,7 @@ pub trait Shelf {
     /// Adds the piece at the end of the file `name`. A name that is not there counts as an empty file. After `Failed` the
     /// file of an honest shelf is as it was, or its old bytes and a prefix of the piece.
     fn append(&mut self, name: &str, piece: &[u8]) -> Result<(), Failed>
-        requires { length name.now ≤ 220 }
+        requires { length name.now ≤ NAME_LIMIT }
         ensures ok { IsTold (state self.old) →
             OnOk result (Appends (state self.old) (state self.new) name.now piece.now) }
         ensures err { IsTold (state self.old) →

@@ -17,9 +17,9 @@ use Rattle.replies.specs.SourceStep.{HasSource, SourceReply}
 use Rattle.replies.specs.declared.status.Status.{Status}
 use Rattle.micro_cli.specs.CheckerText.{TellsAnswer}
 
--- the most bytes of a refutation: 2^43
+-- the most bytes of a refutation
 abbrev pub refutation_limit : ℕ
-refutation_limit = 2 ^ 43
+refutation_limit = REFUTATION_LIMIT
 
 -- the checker's answer is told: it is decided by the bytes that were taken, and where the shelf tells its files, by
 -- the file; where it is that the file is a refutation, the program has no legal placement

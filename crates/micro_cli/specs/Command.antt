@@ -4,6 +4,8 @@ use Rattle.std.specs.Char.{is_ascii_digit}
 use Rattle.std.specs.List.{list_all}
 use Rattle.std.specs.Str.{bytes_eq}
 use Rattle.std.specs.Str.Parse.{digits_value}
+use Rattle.io_base.specs.declared.names.TheConstants.{GIVEN_NAME_LIMIT}
+use Rattle.micro_cli.specs.declared.command_words.TheConstants.{CLOCK_LIMIT, CONFLICT_LIMIT}
 
 -- what the program is asked for, with the names of the files, the number of clocks and the budget of conflicts
 pub data Command : Type 0 where
@@ -25,7 +27,7 @@ is_printable bytes = list_all (λ b. nat_le 33 b && nat_le b 126) bytes
 
 -- a name of a file: 1 to 200 printable bytes
 abbrev pub is_file_name : List ℕ → Bool
-is_file_name bytes = nat_lt 0 (length bytes) && nat_le (length bytes) 200 && is_printable bytes
+is_file_name bytes = nat_lt 0 (length bytes) && nat_le (length bytes) GIVEN_NAME_LIMIT && is_printable bytes
 
 -- a number: 1 to 20 decimal digits
 abbrev pub is_number : List ℕ → Bool
@@ -41,7 +43,7 @@ number_after key limit word = if bytes_eq key (take (length key) word) then numb
 
 -- the clocks of a word `clocks=N`, up to 65,536
 abbrev pub clocks_in : List ℕ → Option ℕ
-clocks_in word = number_after (codes "clocks=") 65536 word
+clocks_in word = number_after (codes "clocks=") CLOCK_LIMIT word
 
 -- the command that prints a map
 abbrev pub map_command : List ℕ → List ℕ → Option Command
@@ -61,7 +63,7 @@ trace_by word file script (Some clocks) = if is_file_name file && is_file_name s
 
 -- the conflicts of a word `conflicts=B`, up to 1,000,000
 abbrev pub conflicts_in : List ℕ → Option ℕ
-conflicts_in word = number_after (codes "conflicts=") 1000000 word
+conflicts_in word = number_after (codes "conflicts=") CONFLICT_LIMIT word
 
 -- the names of a source, a script and an output
 abbrev pub are_file_names : List ℕ → List ℕ → List ℕ → Bool

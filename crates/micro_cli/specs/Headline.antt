@@ -35,6 +35,7 @@ use Rattle.micro_cli.specs.Telling.{refuted_line, undecided_line}
 use Rattle.bench_answers.specs.ReadingBack.{placed_line}
 use Rattle.replies.specs.declared.status.Status.{Status}
 use Rattle.replies.specs.declared.status.Status.TheVariants as status
+use Rattle.micro_cli.specs.declared.command_words.TheConstants.{CONFLICT_LIMIT}
 use Rattle.micro_cli.specs.Command.{Command, make}
 use Rattle.micro_cli.specs.Accepted.{IsAccepted}
 use Rattle.micro_cli.specs.After.{AfterReply}
@@ -124,7 +125,7 @@ pub record IsRefuted (src script out : List ℕ) (conflicts : ℕ) (old new : Sh
   pub written : Writes before after (refuted_line (length lines))
   pub checked_by : check (list_of g) (refutation_text (length (clauses_of g)) lines) ≡ checked.Refutes (length lines)
   pub numbered : length (clauses_of g) + length lines < 2 ^ 32
-  pub short : conflicts ≤ 1000000 → length (refutation_text (length (clauses_of g)) lines) < 2 ^ 39
+  pub short : conflicts ≤ CONFLICT_LIMIT → length (refutation_text (length (clauses_of g)) lines) < 2 ^ 39
   pub none_legal : HasNoPlacement g
 
 -- `refuted` comes only with a refutation
@@ -138,7 +139,7 @@ SavesRefutation _ old new before after s = Unit {0}
 abbrev pub ChecksOut : Option Command → ShelfState → ShelfState → SinkState → SinkState → Status → Type 0
 ChecksOut (Some (make src script out clocks conflicts)) old new before after s =
     (start end : ShelfState) (t : Status) (text : List ℕ) → IsTold old → IsTrue before.tells → s ≡ status.Refuted →
-    conflicts ≤ 1000000 → src ≢ refutation_name out → IsTrue start.tells → start.file ≡ new.file →
+    conflicts ≤ CONFLICT_LIMIT → src ≢ refutation_name out → IsTrue start.tells → start.file ≡ new.file →
     CheckReply src (refutation_name out) start end t text → (t ≡ status.Done) ⊎ Rose start.faults end.faults
 ChecksOut _ old new before after s = Unit {0}
 

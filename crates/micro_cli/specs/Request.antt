@@ -1,5 +1,7 @@
 -- A request of the code, as a command.
 use Rattle.std.specs.Prelude.{◌≤◌, length, Option, None, Some}
+use Rattle.io_base.specs.declared.names.TheConstants.{GIVEN_NAME_LIMIT}
+use Rattle.micro_cli.specs.declared.command_words.TheConstants.{CONFLICT_LIMIT}
 use Rattle.micro_cli.specs.declared.command_words.Request.{Request}
 use Rattle.micro_cli.specs.declared.command_words.Request.TheVariants as request
 use Rattle.micro_cli.specs.Command.{Command, map, flow, run, make, check}
@@ -15,10 +17,10 @@ request_view request.Unknown = None
 
 -- each name has at most 200 bytes, and the budget is at most 1,000,000
 abbrev pub IsInRange : Request → Type 0
-IsInRange (request.Map src) = length src.now ≤ 200
-IsInRange (request.Flow src script clocks) = (length src.now ≤ 200) × (length script.now ≤ 200)
-IsInRange (request.Run out script clocks) = (length out.now ≤ 200) × (length script.now ≤ 200)
+IsInRange (request.Map src) = length src.now ≤ GIVEN_NAME_LIMIT
+IsInRange (request.Flow src script clocks) = (length src.now ≤ GIVEN_NAME_LIMIT) × (length script.now ≤ GIVEN_NAME_LIMIT)
+IsInRange (request.Run out script clocks) = (length out.now ≤ GIVEN_NAME_LIMIT) × (length script.now ≤ GIVEN_NAME_LIMIT)
 IsInRange (request.Make src script out clocks conflicts) =
-    (length src.now ≤ 200) × (length script.now ≤ 200) × (length out.now ≤ 200) × (conflicts ≤ 1000000)
-IsInRange (request.Check src refutation) = (length src.now ≤ 200) × (length refutation.now ≤ 200)
+    (length src.now ≤ GIVEN_NAME_LIMIT) × (length script.now ≤ GIVEN_NAME_LIMIT) × (length out.now ≤ GIVEN_NAME_LIMIT) × (conflicts ≤ CONFLICT_LIMIT)
+IsInRange (request.Check src refutation) = (length src.now ≤ GIVEN_NAME_LIMIT) × (length refutation.now ≤ GIVEN_NAME_LIMIT)
 IsInRange request.Unknown = Unit {0}

@@ -11,7 +11,7 @@ ghost use Rattle.micro_cli.specs.Saving.{IsReady, SavesOrCannot};
 
 use crate::search_texts::{part_text, refutation_text, refuted_line, undecided_line};
 use clause_base::{Clash, Line};
-use io_base::{Failed, OutOfMemory, Shelf, Sink};
+use io_base::{Failed, NAME_LIMIT, OutOfMemory, Shelf, Sink};
 use replies::{Status, say};
 use saved_files::{
     one_written_file_is_saved, refutation_name, room_for_unsaved, save_file, say_unsaved,
@@ -73,7 +73,7 @@ pub(crate) fn save_and_tell<S: Shelf, K: Sink>(
     status: Status,
     mut file: AnswerFile,
 ) -> Status
-    requires short { length (string_bytes file.name) ≤ 220 }
+    requires short { length (string_bytes file.name) ≤ NAME_LIMIT }
     requires empty { file.unsaved.items ≡ [] }
     requires room { 240 ≤ vec_capacity file.unsaved }
     ensures ends { Ends (SavesOrCannot (file_of (string_bytes file.name) file.text.items ∷ []) status file.told.items (S.state shelf.old) (S.state shelf.new))

@@ -8,7 +8,7 @@ ghost use Rattle.micro_cli.specs.Checking.{RefutationReply, CheckReply};
 
 use crate::checker_texts::{answer_status, answer_text};
 use flow_graph::Program;
-use io_base::{OutOfMemory, Shelf, Sink};
+use io_base::{NAME_LIMIT, OutOfMemory, Shelf, Sink};
 use refute_check::{CheckFault, check_ref};
 use replies::{Reply, Status, Stop, load_source, refuse, say_end, tell_unread};
 use std::alloc::Global;
@@ -20,7 +20,7 @@ fn refutation_reply<S: Shelf>(
     shelf: &mut S,
     name: &str,
 ) -> Result<Reply, Stop>
-    requires { length name.now ≤ 220 }
+    requires { length name.now ≤ NAME_LIMIT }
     ensures reply { ComesTo (RefutationReply name.now (graph_of program.now) (S.state shelf.old) (S.state shelf.new)) result }
     ensures same { (S.state shelf.new).file ≡ (S.state shelf.old).file }
     ensures goes_on { GoesOn (S.state shelf.old) (S.state shelf.new) }
@@ -47,8 +47,8 @@ fn check_reply<S: Shelf>(
     src: &str,
     refutation: &str,
 ) -> Result<Reply, Stop>
-    requires src_short { length src.now ≤ 220 }
-    requires refutation_short { length refutation.now ≤ 220 }
+    requires src_short { length src.now ≤ NAME_LIMIT }
+    requires refutation_short { length refutation.now ≤ NAME_LIMIT }
     ensures reply { ComesTo (CheckReply src.now refutation.now (S.state shelf.old) (S.state shelf.new)) result }
     ensures same { (S.state shelf.new).file ≡ (S.state shelf.old).file }
     ensures goes_on { GoesOn (S.state shelf.old) (S.state shelf.new) }
@@ -66,8 +66,8 @@ pub fn check_command<S: Shelf, K: Sink>(
     src: &str,
     refutation: &str,
 ) -> Status
-    requires src_short { length src.now ≤ 220 }
-    requires refutation_short { length refutation.now ≤ 220 }
+    requires src_short { length src.now ≤ NAME_LIMIT }
+    requires refutation_short { length refutation.now ≤ NAME_LIMIT }
     ensures ends { Ends (OrNoMemory (CheckReply src.now refutation.now (S.state shelf.old) (S.state shelf.new)))
         (K.state out.old) (K.state out.new) result }
     ensures same { (S.state shelf.new).file ≡ (S.state shelf.old).file }

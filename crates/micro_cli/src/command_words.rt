@@ -4,6 +4,13 @@ ghost use Rattle.micro_cli.specs.Command.{are_file_names, check_command, command
 ghost use Rattle.micro_cli.specs.Request.{request_view, IsInRange};
 
 use crate::numbers::number_after;
+use io_base::GIVEN_NAME_LIMIT;
+
+/// The most clocks that may be asked for. This project's own choice, as the next one.
+pub const CLOCK_LIMIT: u64 = 65_536;
+
+/// The most conflicts that a search may be given.
+pub const CONFLICT_LIMIT: u64 = 1_000_000;
 
 /// What the words ask for. The names of files have 1 to 200 printable bytes; there are at most 65,536 clocks and at
 /// most 1,000,000 conflicts (this project's own choice).
@@ -65,17 +72,17 @@ fn is_printable(bytes: &[u8]) -> bool
 // Whether a word may be the name of a file: 1 to 200 printable bytes.
 fn is_file_name(word: &str) -> bool
     ensures told { result ≡ is_file_name word.now }
-    ensures short { IsTrue result → length word.now ≤ 200 }
+    ensures short { IsTrue result → length word.now ≤ GIVEN_NAME_LIMIT }
 {
     let printable = is_printable(word.as_bytes());
-    !word.is_empty() && word.len() <= 200 && printable
+    !word.is_empty() && word.len() <= GIVEN_NAME_LIMIT && printable
 }
 
 // The clocks of a word `clocks=N`.
 fn clocks_in(word: &str) -> Option<u32>
     ensures { result ≡ clocks_in word.now }
 {
-    match number_after("clocks=", 65_536, word) {
+    match number_after("clocks=", CLOCK_LIMIT, word) {
         Some(clocks) => Some(clocks as u32),
         None => None,
     }
@@ -83,8 +90,8 @@ fn clocks_in(word: &str) -> Option<u32>
 
 // The request of a trace, where the number of clocks is given.
 fn trace_request<'a>(word: &str, file: &'a str, script: &'a str, clocks: u32) -> Request<'a>
-    requires file_short { length file.now ≤ 200 }
-    requires script_short { length script.now ≤ 200 }
+    requires file_short { length file.now ≤ GIVEN_NAME_LIMIT }
+    requires script_short { length script.now ≤ GIVEN_NAME_LIMIT }
     ensures command { request_view result ≡ trace_command word.now file.now script.now clocks }
     ensures in_range { IsInRange result }
 {
@@ -118,9 +125,9 @@ fn four_words<'a>(word: &str, file: &'a str, script: &'a str, last: &str) -> Req
 // The conflicts of a word `conflicts=B`.
 fn conflicts_in(word: &str) -> Option<u32>
     ensures value { result ≡ conflicts_in word.now }
-    ensures few { IfSome result (λ conflicts. conflicts ≤ 1000000) }
+    ensures few { IfSome result (λ conflicts. conflicts ≤ CONFLICT_LIMIT) }
 {
-    match number_after("conflicts=", 1_000_000, word) {
+    match number_after("conflicts=", CONFLICT_LIMIT, word) {
         Some(conflicts) => Some(conflicts as u32),
         None => None,
     }
@@ -128,7 +135,7 @@ fn conflicts_in(word: &str) -> Option<u32>
 
 fn are_file_names(src: &str, script: &str, out: &str) -> bool
     ensures told { result ≡ are_file_names src.now script.now out.now }
-    ensures short { IsTrue result → (length src.now ≤ 200) × (length script.now ≤ 200) × (length out.now ≤ 200) }
+    ensures short { IsTrue result → (length src.now ≤ GIVEN_NAME_LIMIT) × (length script.now ≤ GIVEN_NAME_LIMIT) × (length out.now ≤ GIVEN_NAME_LIMIT) }
 {
     is_file_name(src) && is_file_name(script) && is_file_name(out)
 }
@@ -142,7 +149,7 @@ fn make_request<'a>(
     clocks: Option<u32>,
     conflicts: Option<u32>,
 ) -> Request<'a>
-    requires few { IfSome conflicts (λ some. some ≤ 1000000) }
+    requires few { IfSome conflicts (λ some. some ≤ CONFLICT_LIMIT) }
     ensures command { request_view result ≡ make_by word.now src.now script.now out.now clocks conflicts }
     ensures in_range { IsInRange result }
 {

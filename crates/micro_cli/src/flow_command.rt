@@ -11,7 +11,7 @@ use crate::inputs::load_inputs;
 use bus_script::Script;
 use flow_graph::Program;
 use flow_sim::{RunFault, flow_run};
-use io_base::{Shelf, Sink};
+use io_base::{NAME_LIMIT, Shelf, Sink};
 use replies::{Status, say_no_memory, say_stop};
 use std::alloc::Global;
 
@@ -45,8 +45,8 @@ pub fn flow_command<S: Shelf, K: Sink>(
     script: &str,
     clocks: u32,
 ) -> Status
-    requires src_short { length src.now ≤ 220 }
-    requires script_short { length script.now ≤ 220 }
+    requires src_short { length src.now ≤ NAME_LIMIT }
+    requires script_short { length script.now ≤ NAME_LIMIT }
     ensures ends { Ends (OrNoMemory (FlowReply src.now script.now clocks (S.state shelf.old) (S.state shelf.new)))
         (K.state out.old) (K.state out.new) result }
     ensures same { (S.state shelf.new).file ≡ (S.state shelf.old).file }

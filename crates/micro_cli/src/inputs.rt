@@ -8,7 +8,7 @@ ghost use Rattle.micro_cli.specs.Inputs.{HasInputs, InputsReply};
 
 use bus_script::Script;
 use flow_graph::Program;
-use io_base::Shelf;
+use io_base::{NAME_LIMIT, Shelf};
 use replies::{Stop, load_script, load_source};
 use std::alloc::Global;
 
@@ -28,8 +28,8 @@ pub fn load_inputs<S: Shelf>(
     src: &str,
     script: &str,
 ) -> Result<Inputs, Stop>
-    requires src_short { length src.now ≤ 220 }
-    requires script_short { length script.now ≤ 220 }
+    requires src_short { length src.now ≤ NAME_LIMIT }
+    requires script_short { length script.now ≤ NAME_LIMIT }
     ensures step { MatchResult result
         (λ inputs. HasInputs src.now script.now (S.state shelf.old) (S.state shelf.new) (graph_of inputs.program) inputs.script)
         (StopsBy (InputsReply src.now script.now (S.state shelf.old) (S.state shelf.new))) }

@@ -10,10 +10,11 @@ ghost use Rattle.micro_cli.specs.Inputs.{InputsReply};
 ghost use Rattle.replies.specs.ScriptStep.{ScriptReply};
 ghost use Rattle.micro_cli.specs.Making.{MakeAnswer, ReadsScript, StartsFrom};
 
+use crate::command_words::CONFLICT_LIMIT;
 use crate::searches::place_and_save;
 use bench_answers::PlacedRun;
 use flow_graph::Program;
-use io_base::{Shelf, Sink};
+use io_base::{GIVEN_NAME_LIMIT, NAME_LIMIT, Shelf, Sink};
 use replies::{SCRIPT_LIMIT, Status, Stop, load_file, load_source, say_stop, script_from};
 use std::alloc::Global;
 
@@ -31,7 +32,7 @@ fn load_script_bytes<S: Shelf>(
     name: &str,
     slices: u8,
 ) -> Result<Vec<u8>, Stop>
-    requires short { length name.now ≤ 220 }
+    requires short { length name.now ≤ NAME_LIMIT }
     requires some { 1 ≤ slices }
     requires most { slices ≤ 16 }
     ensures step { MatchResult result
@@ -55,8 +56,8 @@ fn load_make_inputs<S: Shelf>(
     src: &str,
     script: &str,
 ) -> Result<MakeInputs, Stop>
-    requires src_short { length src.now ≤ 220 }
-    requires script_short { length script.now ≤ 220 }
+    requires src_short { length src.now ≤ NAME_LIMIT }
+    requires script_short { length script.now ≤ NAME_LIMIT }
     ensures step { MatchResult result
         (λ inputs. StartsFrom src.now script.now (S.state shelf.old) (S.state shelf.new) (graph_of inputs.program) inputs.script.items)
         (StopsBy (InputsReply src.now script.now (S.state shelf.old) (S.state shelf.new))) }
@@ -80,10 +81,10 @@ pub fn make_command<S: Shelf, K: Sink>(
     asked: PlacedRun<'_>,
     conflicts: u32,
 ) -> Status
-    requires src_short { length src.now ≤ 220 }
-    requires script_short { length asked.script.now ≤ 220 }
-    requires out_short { length asked.out.now ≤ 200 }
-    requires few { conflicts ≤ 1000000 }
+    requires src_short { length src.now ≤ NAME_LIMIT }
+    requires script_short { length asked.script.now ≤ NAME_LIMIT }
+    requires out_short { length asked.out.now ≤ GIVEN_NAME_LIMIT }
+    requires few { conflicts ≤ CONFLICT_LIMIT }
     ensures ends { Ends (MakeAnswer src.now asked.entry.script.now asked.entry.out.now asked.entry.clocks conflicts (S.state shelf.old) (S.state shelf.new))
         (K.state out.old) (K.state out.new) result }
     ensures others { KeepsAllButAnswers asked.entry.out.now (S.state shelf.old) (S.state shelf.new) }

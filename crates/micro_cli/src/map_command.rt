@@ -7,7 +7,7 @@ ghost use Rattle.replies.specs.Ending.{Ends, ComesTo, OrNoMemory};
 ghost use Rattle.micro_cli.specs.Mapping.{MapReply, ProgramReply, map_kind_name};
 
 use flow_graph::Program;
-use io_base::{OutOfMemory, Shelf, Sink};
+use io_base::{NAME_LIMIT, OutOfMemory, Shelf, Sink};
 use place_model::{MapFault, MapKind, map_text, pinned};
 use replies::{Reply, Status, Stop, load_source, refuse_line, say_end};
 use std::alloc::Global;
@@ -44,7 +44,7 @@ fn program_reply(alloc: Global, src: &str, program: &Program) -> Result<Reply, S
 
 // The reply to what stands under the name of the source.
 fn map_reply<S: Shelf>(alloc: Global, shelf: &mut S, src: &str) -> Result<Reply, Stop>
-    requires { length src.now ≤ 220 }
+    requires { length src.now ≤ NAME_LIMIT }
     ensures reply { ComesTo (MapReply src.now (S.state shelf.old) (S.state shelf.new)) result }
     ensures same { (S.state shelf.new).file ≡ (S.state shelf.old).file }
     ensures goes_on { GoesOn (S.state shelf.old) (S.state shelf.new) }
@@ -61,7 +61,7 @@ pub fn map_command<S: Shelf, K: Sink>(
     out: &mut K,
     src: &str,
 ) -> Status
-    requires { length src.now ≤ 220 }
+    requires { length src.now ≤ NAME_LIMIT }
     ensures ends { Ends (OrNoMemory (MapReply src.now (S.state shelf.old) (S.state shelf.new)))
         (K.state out.old) (K.state out.new) result }
     ensures same { (S.state shelf.new).file ≡ (S.state shelf.old).file }

@@ -15,11 +15,12 @@ ghost use Rattle.micro_cli.specs.Searching.{SearchAnswer};
 ghost use Rattle.micro_cli.specs.Keeping.{KeepsAllButAnswers};
 
 use crate::answer_files::{refuted_file, save_and_tell, undecided_file};
+use crate::command_words::CONFLICT_LIMIT;
 use bench_answers::{PlacedRun, save_and_run};
 use clause_base::{Clash, Line};
 use clause_encode::clause_count;
 use flow_graph::Program;
-use io_base::{OutOfMemory, Shelf, Sink};
+use io_base::{GIVEN_NAME_LIMIT, OutOfMemory, Shelf, Sink};
 use place_model::{MapFault, pinned};
 use placer::{Placed, place};
 use refute_check::{printed_refutations_are_taken, refutation_texts_are_short};
@@ -35,7 +36,7 @@ fn save_refutation<S: Shelf, K: Sink>(
     clauses: u32,
     lines: &[Line],
 ) -> Status
-    requires name_short { length name.now ≤ 200 }
+    requires name_short { length name.now ≤ GIVEN_NAME_LIMIT }
     requires numbers { clauses + length lines.now < 2 ^ 32 }
     ensures ends { Ends (UnlessUnsaved (S.state shelf.old) (S.state shelf.new)
         (SavesOrCannot (refuted_files name.now (refutation_text clauses lines.now)) status.Refuted (refuted_line (length lines.now)) (S.state shelf.old) (S.state shelf.new)))
@@ -61,7 +62,7 @@ fn save_spent<S: Shelf, K: Sink>(
     clash: &Clash,
     conflicts: u32,
 ) -> Status
-    requires name_short { length name.now ≤ 200 }
+    requires name_short { length name.now ≤ GIVEN_NAME_LIMIT }
     requires numbers { clauses + length lines.now < 2 ^ 32 }
     ensures ends { Ends (UnlessUnsaved (S.state shelf.old) (S.state shelf.new)
         (SavesOrCannot (undecided_files name.now (part_text clauses lines.now clash.now)) status.Undecided (undecided_line conflicts) (S.state shelf.old) (S.state shelf.new)))
@@ -86,9 +87,9 @@ fn search_and_save<S: Shelf, K: Sink>(
     script_bytes: &[u8],
     conflicts: u32,
 ) -> Status
-    requires out_short { length asked.out.now ≤ 200 }
+    requires out_short { length asked.out.now ≤ GIVEN_NAME_LIMIT }
     requires small { length script_bytes.now < 2 ^ 32 }
-    requires conflicts { conflicts ≤ 1000000 }
+    requires conflicts { conflicts ≤ CONFLICT_LIMIT }
     ensures ends { Ends (SearchAnswer asked.entry.out.now asked.entry.script.now script_bytes.now asked.entry.clocks conflicts (graph_of program.now) (S.state shelf.old) (S.state shelf.new))
         (K.state out.old) (K.state out.new) result }
     ensures others { KeepsAllButAnswers asked.entry.out.now (S.state shelf.old) (S.state shelf.new) }
@@ -131,9 +132,9 @@ pub fn place_and_save<S: Shelf, K: Sink>(
     script_bytes: &[u8],
     conflicts: u32,
 ) -> Status
-    requires out_short { length asked.out.now ≤ 200 }
+    requires out_short { length asked.out.now ≤ GIVEN_NAME_LIMIT }
     requires small { length script_bytes.now < 2 ^ 32 }
-    requires conflicts { conflicts ≤ 1000000 }
+    requires conflicts { conflicts ≤ CONFLICT_LIMIT }
     ensures ends { Ends (SearchAnswer asked.entry.out.now asked.entry.script.now script_bytes.now asked.entry.clocks conflicts (graph_of program.now) (S.state shelf.old) (S.state shelf.new))
         (K.state out.old) (K.state out.new) result }
     ensures others { KeepsAllButAnswers asked.entry.out.now (S.state shelf.old) (S.state shelf.new) }

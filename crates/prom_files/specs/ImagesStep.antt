@@ -9,11 +9,12 @@ use Rattle.saved_files.specs.FileNames.{image_name}
 use Rattle.replies.specs.Texts.{Refuses}
 use Rattle.replies.specs.FileStep.{HasFile, FileReply}
 use Rattle.replies.specs.declared.status.Status.{Status}
+use Rattle.prom_files.specs.declared.images_step.TheConstants.{IMAGE_LIMIT}
 use Rattle.prom_files.specs.ImageTexts.{bpnf_reason}
 
 -- the most bytes of an image's text
 abbrev pub image_limit : ℕ
-image_limit = 65536
+image_limit = IMAGE_LIMIT
 
 -- these bytes are the text of an image whose words have so many bits
 pub record ShowsImage (bits : ℕ) (bytes : List ℕ) (image : Image) : Type 0 where

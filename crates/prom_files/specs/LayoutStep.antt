@@ -8,11 +8,12 @@ use Rattle.field_decl.specs.Layout.{layout_of}
 use Rattle.saved_files.specs.FileNames.{layout_name}
 use Rattle.replies.specs.FileStep.{HasFile, FileReply}
 use Rattle.replies.specs.SourceStep.{RefusesLine}
+use Rattle.prom_files.specs.declared.layout_step.TheConstants.{LAYOUT_LIMIT}
 use Rattle.replies.specs.declared.status.Status.{Status}
 
 -- the most bytes of a layout
 abbrev pub layout_limit : ℕ
-layout_limit = 65536
+layout_limit = LAYOUT_LIMIT
 
 -- the layout of this output declares this
 pub record HasLayout (out : List ℕ) (old new : ShelfState) (decl : Declaration) : Type 0 where

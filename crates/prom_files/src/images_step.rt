@@ -9,14 +9,14 @@ ghost use Rattle.prom_files.specs.ImageTexts.{bpnf_reason, at_byte};
 ghost use Rattle.prom_files.specs.ImagesStep.{HasImage, HasImages, ImageReply, ImagesReply};
 
 use bpnf::{BpnfFault, Prom, read};
-use io_base::{OutOfMemory, Shelf};
+use io_base::{GIVEN_NAME_LIMIT, NAME_LIMIT, OutOfMemory, Shelf};
 use itoa::Buffer;
 use replies::{Stop, load_file, refuse};
 use saved_files::image_name;
 use std::alloc::Global;
 
 /// The most bytes of an image's text.
-const IMAGE_LIMIT: u64 = 65_536;
+pub const IMAGE_LIMIT: u64 = 65_536;
 
 // A fault at a byte.
 fn at_byte(alloc: Global, position: usize, kind: &[u8]) -> Result<Vec<u8>, OutOfMemory>
@@ -65,7 +65,7 @@ fn refuse_image(alloc: Global, name: &str, fault: BpnfFault) -> Stop
 // Loads and reads one image, or stops with the reply that refuses it.
 fn load_image<S: Shelf>(alloc: Global, shelf: &mut S, name: &str, bits: u8) -> Result<Prom, Stop>
     requires bits { IsWidth bits }
-    requires short { length name.now ≤ 220 }
+    requires short { length name.now ≤ NAME_LIMIT }
     ensures step { MatchResult result
         (HasImage name.now bits (S.state shelf.old) (S.state shelf.new))
         (StopsBy (ImageReply name.now bits (S.state shelf.old) (S.state shelf.new))) }
@@ -91,7 +91,7 @@ fn load_numbered<S: Shelf>(
     number: u8,
 ) -> Result<Prom, Stop>
     requires bits { IsWidth bits }
-    requires short { length out.now ≤ 200 }
+    requires short { length out.now ≤ GIVEN_NAME_LIMIT }
     ensures step { MatchResult result
         (HasImage (image_name out.now number) bits (S.state shelf.old) (S.state shelf.new))
         (StopsBy (ImageReply (image_name out.now number) bits (S.state shelf.old) (S.state shelf.new))) }
@@ -113,7 +113,7 @@ pub fn load_images<S: Shelf>(
     count: u8,
 ) -> Result<Vec<Prom>, Stop>
     requires bits { IsWidth bits }
-    requires short { length out.now ≤ 200 }
+    requires short { length out.now ≤ GIVEN_NAME_LIMIT }
     ensures step { MatchResult result
         (λ images. HasImages out.now bits count (S.state shelf.old) (S.state shelf.new) images.items)
         (StopsBy (ImagesReply out.now bits count (S.state shelf.old) (S.state shelf.new))) }

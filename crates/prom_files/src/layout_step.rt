@@ -7,12 +7,12 @@ ghost use Rattle.saved_files.specs.FileNames.{layout_name};
 ghost use Rattle.prom_files.specs.LayoutStep.{HasLayout, LayoutReply};
 
 use field_decl::{Decl, DeclFault, read_decl};
-use io_base::Shelf;
+use io_base::{NAME_LIMIT, Shelf};
 use replies::{Stop, load_file, refuse_asm};
 use std::alloc::Global;
 
 /// The most bytes of a layout.
-const LAYOUT_LIMIT: u64 = 65_536;
+pub const LAYOUT_LIMIT: u64 = 65_536;
 
 /// Loads and reads the layout `name` of the output `out`, or stops with the reply that refuses it.
 pub fn load_layout<S: Shelf>(
@@ -22,7 +22,7 @@ pub fn load_layout<S: Shelf>(
     name: &str,
 ) -> Result<Decl, Stop>
     requires named { name.now ≡ layout_name out.now }
-    requires short { length name.now ≤ 220 }
+    requires short { length name.now ≤ NAME_LIMIT }
     ensures step { MatchResult result
         (λ decl. HasLayout out.now (S.state shelf.old) (S.state shelf.new) (declaration_of decl))
         (StopsBy (LayoutReply out.now (S.state shelf.old) (S.state shelf.new))) }

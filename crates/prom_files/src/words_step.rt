@@ -10,7 +10,7 @@ ghost use Rattle.prom_files.specs.WordsStep.{HasJoined, HasWords, WordsReply};
 use crate::images_step::load_images;
 use crate::layout_step::load_layout;
 use field_decl::{Decl, prom_count};
-use io_base::{OutOfMemory, Shelf};
+use io_base::{GIVEN_NAME_LIMIT, OutOfMemory, Shelf};
 use prom_split::{JoinFault, Words, join};
 use replies::Stop;
 use saved_files::layout_name;
@@ -32,7 +32,7 @@ fn load_joined<S: Shelf>(
     out: &str,
     decl: &Decl,
 ) -> Result<Words, Stop>
-    requires { length out.now ≤ 200 }
+    requires { length out.now ≤ GIVEN_NAME_LIMIT }
     ensures step { MatchResult result
         (HasJoined out.now (S.state shelf.old) (S.state shelf.new) (declaration_of decl.now))
         (StopsBy (ImagesReply out.now decl.now.prom_bits (image_count (declaration_of decl.now)) (S.state shelf.old) (S.state shelf.new))) }
@@ -54,7 +54,7 @@ fn load_joined<S: Shelf>(
 /// Loads layout and images of an output, and joins them, or stops with the reply that refuses the first file that
 /// is not had.
 pub fn load_words<S: Shelf>(alloc: Global, shelf: &mut S, out: &str) -> Result<SavedWords, Stop>
-    requires { length out.now ≤ 200 }
+    requires { length out.now ≤ GIVEN_NAME_LIMIT }
     ensures step { MatchResult result
         (λ saved. HasWords out.now (S.state shelf.old) (S.state shelf.new) (declaration_of saved.decl) saved.words)
         (StopsBy (WordsReply out.now (S.state shelf.old) (S.state shelf.new))) }

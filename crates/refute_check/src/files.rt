@@ -20,11 +20,11 @@ use crate::taking::{Taken, take_file};
 use crate::{CheckFault, Checked};
 use clause_encode::{ClauseSource, ProgramSource};
 use flow_graph::Program;
-use io_base::Shelf;
+use io_base::{NAME_LIMIT, Shelf};
 use std::alloc::Global;
 
 /// How many bytes of a refutation are read: 2^43.
-const LIMIT: u64 = 1 << 43;
+pub const REFUTATION_LIMIT: u64 = 1 << 43;
 
 /// Checks the file `name` as a refutation of a program's placement clauses.
 ///
@@ -36,7 +36,7 @@ pub fn check_ref<S: Shelf>(
     shelf: &mut S,
     name: &str,
 ) -> Result<Checked, CheckFault>
-    requires { length name.now ≤ 220 }
+    requires { length name.now ≤ NAME_LIMIT }
 
     // Where the text refutes the program's clauses, no placement is legal.
     ensures refuted { IfOk result (λ answer. (k : ℕ) → answer ≡ checked.Refutes k →
@@ -44,10 +44,10 @@ pub fn check_ref<S: Shelf>(
 
     // What a shelf that tells its files says of the answer.
     ensures told { IsTrue (S.state shelf.old).tells →
-        Explains ((S.state shelf.old).file name.now) (2 ^ 43) (list_of (graph_of program.now)) result }
+        Explains ((S.state shelf.old).file name.now) REFUTATION_LIMIT (list_of (graph_of program.now)) result }
 
     // What holds over every shelf.
-    ensures of_bytes { IsOfBytes (2 ^ 43) (list_of (graph_of program.now)) (S.state shelf.old) (S.state shelf.new) result }
+    ensures of_bytes { IsOfBytes REFUTATION_LIMIT (list_of (graph_of program.now)) (S.state shelf.old) (S.state shelf.new) result }
     ensures failed { IsErrOf result CheckFault.Failed →
         Rose (S.state shelf.old).faults (S.state shelf.new).faults }
     ensures failed_name { IsErrOf result CheckFault.Failed →
@@ -57,15 +57,15 @@ pub fn check_ref<S: Shelf>(
     ensures absent { (S.state shelf.old).absent < (S.state shelf.new).absent →
         IsErrOf result CheckFault.NoFile }
     ensures too_long { IsErrOf result CheckFault.TooLong →
-        TookMore (S.state shelf.old) (S.state shelf.new) (2 ^ 43) }
+        TookMore (S.state shelf.old) (S.state shelf.new) REFUTATION_LIMIT }
 
     ensures failed_within { IsErrOf result CheckFault.Failed →
-        (S.state shelf.new).taken - (S.state shelf.old).taken ≤ 2 ^ 43 }
+        (S.state shelf.new).taken - (S.state shelf.old).taken ≤ REFUTATION_LIMIT }
     ensures absent_within { IsErrOf result CheckFault.NoFile →
-        (S.state shelf.new).taken - (S.state shelf.old).taken ≤ 2 ^ 43 }
+        (S.state shelf.new).taken - (S.state shelf.old).taken ≤ REFUTATION_LIMIT }
 
     // How the shelf is left.
-    ensures at_most { (S.state shelf.new).taken ≤ (S.state shelf.old).taken + 2 ^ 43 + 1 }
+    ensures at_most { (S.state shelf.new).taken ≤ (S.state shelf.old).taken + REFUTATION_LIMIT + 1 }
     ensures kept { IsErrOf result CheckFault.Failed
         ⊎ ((S.state shelf.new).last_failed ≡ (S.state shelf.old).last_failed) }
     ensures same { (S.state shelf.new).file ≡ (S.state shelf.old).file }
@@ -88,7 +88,7 @@ pub fn check_lines<S: Shelf, P: ClauseSource>(
     shelf: &mut S,
     name: &str,
 ) -> Result<Checked, CheckFault>
-    requires name { length name.now ≤ 220 }
+    requires name { length name.now ≤ NAME_LIMIT }
     requires given { P.given source.old < 2 ^ 64 }
     requires len { length (P.list source.old).clauses < 2 ^ 32 - 1 }
     requires vars { (P.list source.old).vars < 2 ^ 31 }
@@ -99,14 +99,14 @@ pub fn check_lines<S: Shelf, P: ClauseSource>(
 
     // What a shelf that tells its files says of the answer.
     ensures told { IsTrue (S.state shelf.old).tells →
-        Explains ((S.state shelf.old).file name.now) (2 ^ 43) (P.list source.old) result }
+        Explains ((S.state shelf.old).file name.now) REFUTATION_LIMIT (P.list source.old) result }
 
     // What the source gave.
-    ensures asks { AsksWithin (2 ^ 43) (P.list source.old).clauses (S.state shelf.old) (S.state shelf.new) name.now (P.given source.old) (P.given source.new) result }
+    ensures asks { AsksWithin REFUTATION_LIMIT (P.list source.old).clauses (S.state shelf.old) (S.state shelf.new) name.now (P.given source.old) (P.given source.new) result }
     ensures list { P.list source.new ≡ P.list source.old }
 
     // What holds over every shelf.
-    ensures of_bytes { IsOfBytes (2 ^ 43) (P.list source.old) (S.state shelf.old) (S.state shelf.new) result }
+    ensures of_bytes { IsOfBytes REFUTATION_LIMIT (P.list source.old) (S.state shelf.old) (S.state shelf.new) result }
     ensures failed { IsErrOf result CheckFault.Failed →
         Rose (S.state shelf.old).faults (S.state shelf.new).faults }
     ensures failed_name { IsErrOf result CheckFault.Failed →
@@ -116,20 +116,20 @@ pub fn check_lines<S: Shelf, P: ClauseSource>(
     ensures absent { (S.state shelf.old).absent < (S.state shelf.new).absent →
         IsErrOf result CheckFault.NoFile }
     ensures too_long { IsErrOf result CheckFault.TooLong →
-        TookMore (S.state shelf.old) (S.state shelf.new) (2 ^ 43) }
+        TookMore (S.state shelf.old) (S.state shelf.new) REFUTATION_LIMIT }
     ensures failed_within { IsErrOf result CheckFault.Failed →
-        (S.state shelf.new).taken - (S.state shelf.old).taken ≤ 2 ^ 43 }
+        (S.state shelf.new).taken - (S.state shelf.old).taken ≤ REFUTATION_LIMIT }
     ensures absent_within { IsErrOf result CheckFault.NoFile →
-        (S.state shelf.new).taken - (S.state shelf.old).taken ≤ 2 ^ 43 }
+        (S.state shelf.new).taken - (S.state shelf.old).taken ≤ REFUTATION_LIMIT }
 
     // How the shelf is left.
-    ensures at_most { (S.state shelf.new).taken ≤ (S.state shelf.old).taken + 2 ^ 43 + 1 }
+    ensures at_most { (S.state shelf.new).taken ≤ (S.state shelf.old).taken + REFUTATION_LIMIT + 1 }
     ensures kept { IsErrOf result CheckFault.Failed
         ⊎ ((S.state shelf.new).last_failed ≡ (S.state shelf.old).last_failed) }
     ensures same { (S.state shelf.new).file ≡ (S.state shelf.old).file }
     ensures goes_on { GoesOn (S.state shelf.old) (S.state shelf.new) }
 {
-    let taken = take_file(alloc, shelf, name, LIMIT)?;
+    let taken = take_file(alloc, shelf, name, REFUTATION_LIMIT)?;
     decide(alloc, source, &taken)
 }
 

@@ -5,7 +5,7 @@ ghost use Rattle.io_base.specs.Shelf.{GoesOn};
 ghost use Rattle.refute_check.specs.Taken.{IsTaken};
 
 use crate::CheckFault;
-use io_base::{Failed, Shelf};
+use io_base::{Failed, NAME_LIMIT, Shelf};
 use std::alloc::Global;
 
 /// The first bytes of a file, and whether it has more.
@@ -27,7 +27,7 @@ pub(crate) fn take_file<S: Shelf>(
     name: &str,
     limit: u64,
 ) -> Result<Taken, CheckFault>
-    requires { length name.now ≤ 220 }
+    requires { length name.now ≤ NAME_LIMIT }
     ensures taken { IfOk result (λ taken.
         IsTaken (S.state shelf.old) (S.state shelf.new) name.now limit taken.bytes.items taken.longer) }
     ensures never { IsErrOf result CheckFault.TooLong → ⊥ }

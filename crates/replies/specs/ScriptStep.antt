@@ -1,6 +1,7 @@
 -- The step of a command that reads a script: what it says, or the reply that ends the command (this project's own
 -- choice).
 use Rattle.std.specs.Prelude.{ℕ, ◌≡◌, ◌⊎◌, List, Ok, Err}
+use Rattle.replies.specs.declared.script_step.TheConstants.{SCRIPT_LIMIT}
 use Rattle.io_base.specs.Shelf.{ShelfState}
 use Rattle.bus_script.specs.declared.fault.ScriptKind.{ScriptKind}
 use Rattle.bus_script.specs.Script.{BusScript, script_of}
@@ -11,7 +12,7 @@ use Rattle.replies.specs.declared.status.Status.{Status}
 
 -- the most bytes of a script
 abbrev pub script_limit : ℕ
-script_limit = 4194304
+script_limit = SCRIPT_LIMIT
 
 -- bytes that are no script for so many slices: the first refused line is told
 pub record RefusesScript (name : List ℕ) (slices : ℕ) (bytes : List ℕ) (s : Status) (text : List ℕ) : Type 0 where

@@ -1,6 +1,7 @@
 -- The step of a command that reads a source: its program, or the reply that ends the command (this project's own
 -- choice).
 use Rattle.std.specs.Prelude.{ℕ, ◌≡◌, ◌⊎◌, List, Ok, Err}
+use Rattle.replies.specs.declared.source_step.TheConstants.{SOURCE_LIMIT}
 use Rattle.io_base.specs.Shelf.{ShelfState}
 use Rattle.field_decl.specs.declared.fault.AsmKind.{AsmKind}
 use Rattle.flow_graph.specs.Graph.{Graph}
@@ -12,7 +13,7 @@ use Rattle.replies.specs.declared.status.Status.{Status}
 
 -- the most bytes of a source
 abbrev pub source_limit : ℕ
-source_limit = 1048576
+source_limit = SOURCE_LIMIT
 
 -- a line of a source or of a layout is refused
 abbrev pub RefusesLine : List ℕ → ℕ → AsmKind → Status → List ℕ → Type 0

@@ -5,7 +5,7 @@ ghost use Rattle.replies.specs.Ending.{StopsBy};
 ghost use Rattle.replies.specs.FileStep.{HasFile, FileReply};
 
 use crate::reply::{Stop, refuse, tell_unread};
-use io_base::{LoadFault, Shelf, load};
+use io_base::{LoadFault, NAME_LIMIT, Shelf, load};
 use std::alloc::Global;
 
 /// Loads a file of at most `limit` bytes, or stops: `refused NAME NoFile`, `refused NAME TooLong` or `cannot read
@@ -16,7 +16,7 @@ pub fn load_file<S: Shelf>(
     name: &str,
     limit: u64,
 ) -> Result<Vec<u8>, Stop>
-    requires { length name.now ≤ 220 }
+    requires { length name.now ≤ NAME_LIMIT }
     ensures step { MatchResult result
         (λ bytes. HasFile name.now limit (S.state shelf.old) (S.state shelf.new) bytes.items)
         (StopsBy (FileReply name.now limit (S.state shelf.old) (S.state shelf.new))) }

@@ -10,7 +10,7 @@ use crate::file_step::load_file;
 use crate::kind_texts::refuse_script;
 use crate::reply::Stop;
 use bus_script::{Script, ScriptFault, read_script};
-use io_base::Shelf;
+use io_base::{NAME_LIMIT, Shelf};
 use std::alloc::Global;
 
 /// The most bytes of a script: 4 MiB.
@@ -40,7 +40,7 @@ pub fn load_script<S: Shelf>(
     name: &str,
     slices: u8,
 ) -> Result<Script, Stop>
-    requires short { length name.now ≤ 220 }
+    requires short { length name.now ≤ NAME_LIMIT }
     requires some { 1 ≤ slices }
     requires most { slices ≤ 16 }
     ensures step { MatchResult result

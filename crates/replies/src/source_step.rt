@@ -9,16 +9,16 @@ use crate::file_step::load_file;
 use crate::kind_texts::refuse_asm;
 use crate::reply::Stop;
 use flow_graph::Program;
-use io_base::Shelf;
+use io_base::{NAME_LIMIT, Shelf};
 use micro_asm::{AsmFault, assemble};
 use std::alloc::Global;
 
-/// The most bytes of a source.
-const SOURCE_LIMIT: u64 = 1_048_576;
+/// The most bytes of a source: 1 MiB.
+pub const SOURCE_LIMIT: u64 = 1_048_576;
 
-/// Loads and assembles a source of at most 1,048,576 bytes, or stops with the reply that refuses it.
+/// Loads and assembles a source of at most `SOURCE_LIMIT` bytes, or stops with the reply that refuses it.
 pub fn load_source<S: Shelf>(alloc: Global, shelf: &mut S, src: &str) -> Result<Program, Stop>
-    requires { length src.now ≤ 220 }
+    requires { length src.now ≤ NAME_LIMIT }
     ensures step { MatchResult result
         (λ program. HasSource src.now (S.state shelf.old) (S.state shelf.new) (graph_of program))
         (StopsBy (SourceReply src.now (S.state shelf.old) (S.state shelf.new))) }

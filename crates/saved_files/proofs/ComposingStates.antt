@@ -12,13 +12,23 @@ pub rose_before : (a b c : ℕ) → a ≤ b → Rose b c → Rose a c
 rose_before a b c earlier rose = omega (arith, earlier, rose)
 
 pub goes_on_same : (shelf : ShelfState) → GoesOn shelf shelf
-goes_on_same shelf = record { later = omega arith; taken = omega arith; absent = omega arith; tells = refl; honest = refl }
+goes_on_same shelf = record {
+  later = omega arith;
+  taken = omega arith;
+  absent = omega arith;
+  creates = omega arith;
+  appends = omega arith;
+  tells = refl;
+  honest = refl;
+}
 
 pub goes_on_both : (start old new : ShelfState) → GoesOn start old → GoesOn old new → GoesOn start new
 goes_on_both start old new before after = record {
   later = omega (arith, before.later, after.later);
   taken = omega (arith, before.taken, after.taken);
   absent = omega (arith, before.absent, after.absent);
+  creates = omega (arith, before.creates, after.creates);
+  appends = omega (arith, before.appends, after.appends);
   tells = after.tells ∙ before.tells;
   honest = after.honest ∙ before.honest;
 }

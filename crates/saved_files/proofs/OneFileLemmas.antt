@@ -21,6 +21,8 @@ writes_only_both start now new name before after = record {
     later = omega (arith, before.goes_on.later, after.goes_on.later);
     taken = omega (arith, before.goes_on.taken, after.goes_on.taken);
     absent = omega (arith, before.goes_on.absent, after.goes_on.absent);
+    creates = omega (arith, before.goes_on.creates, after.goes_on.creates);
+    appends = omega (arith, before.goes_on.appends, after.goes_on.appends);
     tells = after.goes_on.tells ∙ before.goes_on.tells;
     honest = after.goes_on.honest ∙ before.goes_on.honest;
   };

@@ -1,5 +1,6 @@
 -- What stands after files were saved in their order, and after a fault in that. This project's own choice.
 use Rattle.std.specs.Prelude.{ℕ, ◌≡◌, ◌≢◌, ◌<◌, ◌≤◌, ◌+◌, ◌⊎◌, List, length, Some, slice_get}
+use Rattle.io_base.specs.declared.names.TheConstants.{NAME_LIMIT}
 use Rattle.io_base.specs.Causes.{Rose}
 use Rattle.io_base.specs.Shelf.{ShelfState, IsTold, CountsChanges}
 use Rattle.saved_files.specs.SavedFile.{SavedFile}
@@ -11,7 +12,7 @@ AreApart files = (i j : ℕ) (x y : SavedFile) → i < j → slice_get files i �
 
 -- each name is short enough for a shelf
 abbrev pub AreShort : List SavedFile → Type 0
-AreShort files = (i : ℕ) (x : SavedFile) → slice_get files i ≡ Some x → length x.name ≤ 220
+AreShort files = (i : ℕ) (x : SavedFile) → slice_get files i ≡ Some x → length x.name ≤ NAME_LIMIT
 
 -- none of the first files has this name
 abbrev pub IsNameOfNone : List SavedFile → ℕ → List ℕ → Type 0

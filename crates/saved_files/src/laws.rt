@@ -7,12 +7,14 @@ ghost use Rattle.saved_files.specs.FileNames.{map_name, layout_name, image_name}
 ghost use Rattle.saved_files.specs.OneFile.{IsWritten, IsUnwritten};
 ghost use Rattle.saved_files.specs.Saving.{AreApart, AreShort, IsSaved, FailedAt};
 
+use io_base::GIVEN_NAME_LIMIT;
+
 /// The files of a placement have names that differ and that a shelf takes, for a name of at most 200
 /// bytes and at most 96 images.
 pub fn placed_files_may_be_saved()
     ensures apart { (out map layout : List ℕ) (images : List (List ℕ)) → length images ≤ 96 →
         AreApart (placed_files out map layout images) }
-    ensures short { (out map layout : List ℕ) (images : List (List ℕ)) → length out ≤ 200 →
+    ensures short { (out map layout : List ℕ) (images : List (List ℕ)) → length out ≤ GIVEN_NAME_LIMIT →
         length images ≤ 96 → AreShort (placed_files out map layout images) }
 {}
 

@@ -7,11 +7,11 @@ ghost use Rattle.io_base.specs.Shelf.{ShelfState, HasCause, CountsChanges};
 ghost use Rattle.saved_files.specs.OneFile.{WritesOnly, IsWritten, IsUnwritten};
 ghost use Rattle.saved_files.specs.Saving.{TakesOneUpTo};
 
-use io_base::{Failed, Shelf};
+use io_base::{Failed, NAME_LIMIT, Shelf};
 
-/// Begins the file `name`, of at most 220 bytes: it is empty then.
+/// Begins the file `name`, of at most `NAME_LIMIT` bytes: it is empty then.
 pub fn begin_file<S: Shelf>(shelf: &mut S, name: &str) -> Result<(), Failed>
-    requires { length name.now ≤ 220 }
+    requires { length name.now ≤ NAME_LIMIT }
     ensures ok { OnOk result (IsWritten (S.state shelf.old) (S.state shelf.new) name.now []) }
     ensures err { OnErr result (IsUnwritten (S.state shelf.old) (S.state shelf.new) name.now []) }
     ensures calls { CountsChanges (S.state shelf.old) (S.state shelf.new) 1 0 }
@@ -19,9 +19,9 @@ pub fn begin_file<S: Shelf>(shelf: &mut S, name: &str) -> Result<(), Failed>
     shelf.create(name)
 }
 
-/// Adds a piece to the file `name`, of at most 220 bytes, which was begun and holds the text so far.
+/// Adds a piece to the file `name`, of at most `NAME_LIMIT` bytes, which was begun and holds the text so far.
 pub fn grow_file<S: Shelf>(shelf: &mut S, name: &str, piece: &[u8]) -> Result<(), Failed>
-    requires { length name.now ≤ 220 }
+    requires { length name.now ≤ NAME_LIMIT }
     ensures ok { (start : ShelfState) (text : List ℕ) → IsWritten start (S.state shelf.old) name.now text →
         OnOk result (IsWritten start (S.state shelf.new) name.now (text ++ piece.now)) }
     ensures err { (start : ShelfState) (text : List ℕ) → IsWritten start (S.state shelf.old) name.now text →
@@ -36,9 +36,9 @@ pub fn grow_file<S: Shelf>(shelf: &mut S, name: &str, piece: &[u8]) -> Result<()
     }
 }
 
-/// Saves the file `name`, of at most 220 bytes, by one create and one append: it holds just these bytes then.
+/// Saves the file `name`, of at most `NAME_LIMIT` bytes, by one create and one append: it holds just these bytes then.
 pub fn save_file<S: Shelf>(shelf: &mut S, name: &str, bytes: &[u8]) -> Result<(), Failed>
-    requires { length name.now ≤ 220 }
+    requires { length name.now ≤ NAME_LIMIT }
     ensures ok { OnOk result (IsWritten (S.state shelf.old) (S.state shelf.new) name.now bytes.now) }
     ensures err { OnErr result (IsUnwritten (S.state shelf.old) (S.state shelf.new) name.now bytes.now) }
     ensures calls { OnOk result (CountsChanges (S.state shelf.old) (S.state shelf.new) 1 1) }

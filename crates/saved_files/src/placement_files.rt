@@ -5,7 +5,7 @@ ghost use Rattle.saved_files.specs.Saving.{AreApart, AreShort};
 
 use crate::Text;
 use crate::names::{image_name, layout_name, map_name};
-use io_base::OutOfMemory;
+use io_base::{GIVEN_NAME_LIMIT, OutOfMemory};
 use std::alloc::Global;
 
 // Adds a file for each of these images, numbered from 0.
@@ -37,7 +37,7 @@ pub fn placed_files(
     layout_text: Vec<u8>,
     images: Vec<Vec<u8>>,
 ) -> Result<Vec<Text>, OutOfMemory>
-    requires out_short { length out.now ≤ 200 }
+    requires out_short { length out.now ≤ GIVEN_NAME_LIMIT }
     requires few { length images.items ≤ 96 }
     ensures files { IfOk result (λ files. files.items
         ≡ placed_files out.now map_text.items layout_text.items (map (λ image. image.items) images.items)) }

@@ -2,7 +2,7 @@
 ghost use Rattle.std.specs.Prelude.{◌≡◌, ◌≤◌, [], IfOk, length, vec_capacity};
 ghost use Rattle.saved_files.specs.Unsaved.{cannot_save};
 
-use io_base::OutOfMemory;
+use io_base::{NAME_LIMIT, OutOfMemory};
 use std::alloc::Global;
 
 /// The most bytes of a text that `say_unsaved` writes, and a few more.
@@ -21,7 +21,7 @@ pub fn room_for_unsaved(alloc: Global) -> Result<Vec<u8>, OutOfMemory>
 pub fn say_unsaved(text: &mut Vec<u8>, name: &str)
     requires empty { text.old.items ≡ [] }
     requires room { 240 ≤ vec_capacity text.old }
-    requires short { length name.now ≤ 220 }
+    requires short { length name.now ≤ NAME_LIMIT }
     ensures { text.new.items ≡ cannot_save name.now }
 {
     let _ = text.extend_from_slice(b"cannot save ");
