@@ -1,5 +1,4 @@
 mod Streaming
 mod Replying
 mod OtherFiles
-mod Sizes
 pub mod ReadBack

@@ -39,7 +39,8 @@ use Rattle.replies.specs.declared.status.Status.{Status}
 use Rattle.bench_answers.specs.PlacedFiles.{PlacesFiles}
 use Rattle.bench_answers.specs.ReadingBack.{IsPlacedRun, ShiftOrRun, WordsBack, BackReply, CannotReadBack}
 use Rattle.bench_answers.specs.Placed.{AreSaved}
-use Rattle.bench_answers.proofs.Sizes.{image_short, layout_short}
+use Rattle.bpnf.proofs.ImageLength.{image_short}
+use Rattle.field_decl.proofs.LayoutLength.{layout_short}
 
 -- ---- results
 

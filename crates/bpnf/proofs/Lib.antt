@@ -1,5 +1,6 @@
 pub mod GrammarLaws
 pub mod LetterLaws
+pub mod ImageLength
 pub mod NothingElseIsAllowed
 pub mod PrintedLaws
 pub mod ReadLaws

@@ -1,6 +1,7 @@
 pub mod DrivenBits
 pub mod FieldLemmas
 pub mod LayoutLaw
+pub mod LayoutLength
 pub mod MaskLaw
 pub mod NamePads
 pub mod ReadAgain

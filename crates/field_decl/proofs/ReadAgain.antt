@@ -121,7 +121,7 @@ pub record Sized (field : Field) : Type 0 where
   pub fits : field.default < 2 ^ field.width
 
 -- a field that passes them
-sizes_of : (field : Field) → is_sized field ≡ true → Sized field
+pub sizes_of : (field : Field) → is_sized field ≡ true → Sized field
 sizes_of field h =
     let parts = and_parts (nat_le 1 field.width && nat_le field.width 32) (nat_lt field.default (2 ^ field.width)) h in
     let wide = and_parts (nat_le 1 field.width) (nat_le field.width 32) parts.0 in

@@ -1,3 +1,4 @@
+pub mod FewInstructions
 pub mod LabelLemmas
 pub mod OperationLemmas
 pub mod ProgramLemmas

@@ -2,13 +2,12 @@ pub mod FlowSteps
 pub mod NumberSteps
 pub mod CommandWords
 pub mod ToldFiles
-pub mod LinesText
 pub mod AcceptedLemmas
 pub mod AcceptedInputs
 pub mod RunAfter
 pub mod MakeSteps
 pub mod MakeOutcomes
-pub mod FewInstrs
+pub mod ShortRefutation
 pub mod MakeLaws
 pub mod UnplacedLaws
 pub mod Promises

@@ -26,7 +26,9 @@ use Rattle.micro_cli.specs.Making.{MakeAnswer}
 use Rattle.micro_cli.specs.Headline.{Writes, IsRefuted, IsUndecided}
 use Rattle.micro_cli.proofs.AcceptedInputs.{RefusesOrFails, inputs_status, source_unread, source_read, starts_accepted, starts_same}
 use Rattle.micro_cli.proofs.MakeOutcomes.{Start, Found, Refuted, Undecided, Outcome, lacks_inputs, lacks_memory, lacks_file, found, refuted, undecided, outcome_of, Wrote, ends_wrote}
-use Rattle.micro_cli.proofs.FewInstrs.{few_instrs, short_refutation}
+use Rattle.micro_cli.specs.declared.command_words.TheConstants.{CONFLICT_LIMIT}
+use Rattle.micro_asm.proofs.FewInstructions.{few_instrs}
+use Rattle.micro_cli.proofs.ShortRefutation.{short_refutation}
 use Rattle.micro_cli.proofs.AcceptedLemmas.{accepted}
 use Rattle.micro_cli.proofs.RunAfter.{RunsOrFails}
 use Rattle.micro_cli.proofs.MakeLaws.{told_start, found_runs}
@@ -130,7 +132,7 @@ refuted_stands src script out clocks conflicts old new before after s told tells
 -- the check of a saved refutation is done, unless a fault is counted
 pub refuted_checks : (src script out : List ℕ) (conflicts : ℕ) (old new start end : ShelfState) (before after : SinkState) (t : Status)
     (text : List ℕ)
-    → IsRefuted src script out conflicts old new before after → conflicts ≤ 1000000 → src ≢ refutation_name out → IsTrue start.tells
+    → IsRefuted src script out conflicts old new before after → conflicts ≤ CONFLICT_LIMIT → src ≢ refutation_name out → IsTrue start.tells
     → start.file ≡ new.file
     → CheckReply src (refutation_name out) start end t text → (t ≡ status.Done) ⊎ Rose start.faults end.faults
 refuted_checks src script out conflicts old new start end before after t text r budget differs tells same reply = go reply

@@ -1,4 +1,5 @@
 pub mod TextLemmas
+pub mod LinesText
 pub mod WordLemmas
 pub mod MarkLemmas
 pub mod RightLemmas

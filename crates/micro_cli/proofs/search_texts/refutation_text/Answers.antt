@@ -1,7 +1,7 @@
 use Rattle.std.proofs.Common.{ℕ, ◌≡◌, ◌+◌, List, ◌++◌, length, take, Some, suc, refl, sym, ap, ◌∙◌, arith, slice_get}
 use Rattle.std.proofs.lemmas.Option.{slice_get_read}
 use Rattle.ref_text.specs.Text.{line_text, lines_text}
-use Rattle.micro_cli.proofs.LinesText.{lines_more, lines_none}
+use Rattle.ref_text.proofs.LinesText.{lines_more, lines_none}
 use Rattle.micro_cli.proofs.search_texts.refutation_text.Goals as goal
 
 pub loop-line-init : goal.loop-line-init

@@ -1,8 +1,7 @@
--- A source has at most 128 instructions, so a saved refutation is short.
-use Rattle.std.proofs.Common.{ℕ, ◌≡◌, ◌≤◌, ◌<◌, ◌+◌, ◌-◌, ◌*◌, ◌^◌, Bool, true, false, List, [], ◌∷◌, ◌++◌, length, Option, None, Some, Result, Ok, Err, refl, sym, subst, arith, length-append}
+-- An accepted source has at most 128 instructions.
+use Rattle.std.proofs.Common.{ℕ, ◌≡◌, ◌≤◌, ◌<◌, ◌+◌, Bool, true, false, List, [], ◌∷◌, ◌++◌, length, Option, None, Some, Result, Ok, Err, refl, sym, subst, arith, length-append}
 use Rattle.std.specs.Prelude.{nat_le, nat_lt, is_some, ◌||◌, ◌==◌, if◌then◌else◌}
 use Rattle.std.proofs.lemmas.List.{length-map}
-use Rattle.std.proofs.lemmas.Nat.{mul-le}
 use Rattle.std.proofs.lemmas.Bool.Decides.{nat_tests}
 use Rattle.std.proofs.lemmas.List.{append-nil}
 use Rattle.std.proofs.lemmas.List.Elements.{filter_map-append}
@@ -26,7 +25,6 @@ use Rattle.micro_asm.specs.Earlier.{Line, Nothing, Declares, Rows, Starts, Pins,
 use Rattle.micro_asm.specs.Judging.{judged, instruction_judged, instruction_read, instructs, is_late}
 use Rattle.micro_asm.specs.Source.{line_read, lines_read, program_of, source_of, instr_of, started, unknown_line, unless_unknown, built, ok_graph}
 use Rattle.micro_asm.specs.SourceLines.{source_line_form}
-use Rattle.placement_clauses.specs.Number.{var_count_of}
 
 -- ---- one line
 
@@ -163,19 +161,3 @@ few_source (Err fault) few = tt
 -- an accepted source has at most 128 instructions
 pub few_instrs : (source : List ℕ) (g : Graph) → source_of source ≡ Ok g → length g.instrs ≤ 128
 few_instrs source g meant = subst FewIn meant (few_source (lines_read [] (lines source)) (few_lines (lines source) [] (omega arith)))
-
--- ---- the length of a refutation
-
-few_vars : (n : ℕ) → n ≤ 128 → var_count_of n ≤ 14656
-few_vars n few =
-    let pairs : n * (n - 1) ≤ 128 * 127 = mul-le n (n - 1) 128 127 few (omega arith) in
-    omega (arith, pairs, few)
-
-pub short_refutation : (source : List ℕ) (g : Graph) (lines conflicts size : ℕ) → source_of source ≡ Ok g → lines ≤ conflicts + 1
-    → size ≤ lines * (12 * var_count_of (length g.instrs) + 27)
-    → conflicts ≤ 1000000 → size < 2 ^ 39
-short_refutation source g lines conflicts size meant few bound budget =
-    let vars : var_count_of (length g.instrs) ≤ 14656 = few_vars (length g.instrs) (few_instrs source g meant) in
-    let most : lines * (12 * var_count_of (length g.instrs) + 27) ≤ 1000001 * 175899 =
-    mul-le lines (12 * var_count_of (length g.instrs) + 27) 1000001 175899 (omega (arith, few, budget)) (omega (arith, vars)) in
-    omega (arith, bound, most)

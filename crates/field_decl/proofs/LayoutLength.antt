@@ -1,46 +1,18 @@
--- The texts of layouts and images are far shorter than what is read of them.
-use Rattle.std.proofs.Common.{ℕ, zero, suc, ◌≡◌, ◌+◌, ◌*◌, ◌^◌, ◌≤◌, ◌<◌, ◌||◌, inl, inr, true, List, [], ◌∷◌, ◌++◌, length, Option, Some, None, refl, ap, ◌∙◌, subst, arith, length-append}
-use Rattle.std.specs.Prelude.{All, decimal, codes, nat_le, nat_lt, ◌&&◌, ◌==◌, slice_get}
+-- The text of a layout is short.
+use Rattle.std.proofs.Common.{ℕ, zero, suc, ◌≡◌, ◌+◌, ◌*◌, ◌^◌, ◌≤◌, ◌<◌, ◌||◌, true, List, [], ◌∷◌, ◌++◌, length, Option, Some, None, refl, subst, arith, length-append}
+use Rattle.std.specs.Prelude.{All, decimal, codes, ◌==◌, slice_get}
 use Rattle.std.specs.List.{list_all}
-use Rattle.std.proofs.lemmas.Bool.{and_parts, leb-true, ltb-true}
+use Rattle.std.proofs.lemmas.Bool.{and_parts}
 use Rattle.std.proofs.lemmas.Fmt.{length-decimal-le}
 use Rattle.std.proofs.Math.Nat.{pow-le-pow_right}
-use Rattle.bpnf.specs.Frames.{letters_of, frame}
-use Rattle.bpnf.specs.Canonical.{frames_of, image_text}
-use Rattle.bpnf.specs.Image.{Image, IsImage, IsWidth}
-use Rattle.bpnf.proofs.LetterLaws.{length-letters_of}
 use Rattle.field_decl.specs.declared.field.Field.{Field}
 use Rattle.field_decl.specs.Declaration.{Declaration}
+use Rattle.field_decl.specs.Earlier.{FitsTogether}
 use Rattle.field_decl.specs.Fields.{is_sized}
 use Rattle.field_decl.specs.Spaced.{Run, after_space, spaced}
 use Rattle.field_decl.specs.LayoutText.{printed, name_run, number_run, slices_runs, kbus_runs, field_runs, prom_runs, fields_text, write_line, write_text, layout_text}
 use Rattle.field_decl.proofs.FieldLemmas.{few_fields}
-use Rattle.bus_bench.specs.Law.{Declares}
-
--- ---- images
-
-frames_length : (bits : ℕ) (words : List ℕ) → length (frames_of bits words) ≡ length words * (bits + 3)
-unfolding frames_of
-frames_length bits [] = omega arith
-frames_length bits (word ∷ words) =
-    let letters = length-letters_of bits word in
-    let ended = length-append (letters_of bits word) (70 ∷ []) in
-    let whole = length-append (frame bits word) (10 ∷ frames_of bits words) in
-    let rest = frames_length bits words in
-    omega (arith, letters, ended, whole, rest)
-
--- the text of an image has at most 512 frames of 11 bytes
-pub image_short : (image : Image) → IsImage image → length (image_text image) ≤ 65536
-image_short image is = go is.width
-  where
-    size : length (image_text image) ≡ length image.words * (image.bits + 3)
-    size = frames_length image.bits image.words
-
-    go : IsWidth image.bits → length (image_text image) ≤ 65536
-    go (inl four) = omega (arith, size ∙ ap (λ (n : ℕ). n * (image.bits + 3)) is.many, four)
-    go (inr eight) = omega (arith, size ∙ ap (λ (n : ℕ). n * (image.bits + 3)) is.many, eight)
-
--- ---- layouts
+use Rattle.field_decl.proofs.ReadAgain.{Sized, sizes_of}
 
 -- one run more
 run_length : (run : Run) (runs : List Run) → length (after_space (run ∷ runs)) ≡ 1 + length run.0 + length (after_space runs)
@@ -73,29 +45,17 @@ prom_length words bits a b =
 abbrev has_short_name : Field → Type 0
 has_short_name field = length field.name ≤ 32
 
--- a field that passes the tests
-pub record Sized (field : Field) : Type 0 where
-  pub most : field.width < 2 ^ 32
-  pub fits : field.default < 2 ^ 32
-
-sizes_of : (field : Field) → is_sized field ≡ true → Sized field
-sizes_of field h =
-    let parts = and_parts (nat_le 1 field.width && nat_le field.width 32) (nat_lt field.default (2 ^ field.width)) h in
-    let wide = and_parts (nat_le 1 field.width) (nat_le field.width 32) parts.0 in
-    let most = leb-true field.width 32 wide.1 in
-    let power : 2 ^ field.width ≤ 2 ^ 32 = pow-le-pow_right (omega arith) most in
-    record { most = omega (arith, most); fits = omega (arith, ltb-true field.default (2 ^ field.width) parts.1, power) }
-
 field_length : (field : Field) → has_short_name field → Sized field → length (printed (field_runs field)) ≤ 61
 field_length field name s =
+    let power : 2 ^ field.width ≤ 2 ^ 32 = pow-le-pow_right (omega arith) s.most in
     omega (
       arith,
       line_length (name_run (codes "field")) (name_run field.name ∷ number_run field.width ∷ number_run field.default ∷ []),
       run_length (name_run field.name) (number_run field.width ∷ number_run field.default ∷ []),
       run_length (number_run field.width) (number_run field.default ∷ []),
       run_length (number_run field.default) [],
-      number_short field.width s.most,
-      number_short field.default s.fits,
+      number_short field.width (omega (arith, s.most)),
+      number_short field.default (omega (arith, s.fits, power)),
       name,
     )
 
@@ -133,7 +93,7 @@ few_bits : (bits : ℕ) → (bits == 4 || bits == 8) ≡ true → bits < 2 ^ 32
 few_bits bits h = grind arith
 
 -- the text of a layout has at most 78 field lines of 61 bytes
-pub layout_short : (d : Declaration) → Declares d → length (layout_text d) ≤ 65536
+pub layout_short : (d : Declaration) → FitsTogether d → length (layout_text d) ≤ 65536
 unfolding layout_text
 layout_short d h =
     let named : All has_short_name d.fields = λ k field less. (h.named k field less).short in
