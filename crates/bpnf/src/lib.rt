@@ -5,7 +5,7 @@
 //! text has just one reading, an image's words or a fault, and that of a printed text is the image that it was
 //! printed from.
 //!
-//! Contracts: `read`, `print`, `each_text_has_one_reading`.
+//! Contracts: `read`, `print`, `each_text_has_one_reading`, `printed_text_is_read`.
 #![tactic(auto)]
 
 mod bytes;

@@ -37,7 +37,7 @@ no_bad_shift g place words graph legal holds cell in_matrix = go (at_label place
         let within : at.0 < length g.instrs =
         subst (λ (n : ℕ). at.0 < n) legal.cell_for_each_label (slice_get_within place at.0 cell at.1) in
         let here = element_at g.instrs at.0 within in
-        let held = instr_held g.decl here.0 (graph.functions at.0 here.0 here.1) (graph.microwords.each at.0 here.0 here.1) in
+        let held = instr_held g.decl here.0 (graph.microwords.each at.0 here.0 here.1) in
         let w = holds.labels at.0 here.0 cell here.1 at.1 in
         read_shift g.decl (order_of g.decl (Some here.0)) (values_of g.decl (Some here.0)) w.0 (word_at words cell) held w.1.in_range w.2
     go (inr free) =

@@ -39,10 +39,10 @@ unfolding order_by
 order_back decl order values jump h = rw (h.mask, h.write)
 
 -- an instruction orders what a word can hold
-pub instr_held : (decl : Declaration) (instr : Instr) → instr.func < 128 → FitsDeclaration decl instr
+pub instr_held : (decl : Declaration) (instr : Instr) → FitsDeclaration decl instr
     → IsHeld decl (order_of decl (Some instr)) (values_of decl (Some instr))
-instr_held decl instr func h = record {
-  func = func;
+instr_held decl instr h = record {
+  func = h.function;
   mask = eqb-true (spread_bits (share_in decl) decl.kbus (gathered_bits (share_in decl) decl.kbus instr.mask)) instr.mask h.kbits;
   shift = h.shift;
   fields = h.values;

@@ -94,7 +94,7 @@ label_says g place words cell label m b instr graph holds in_matrix pr px sx at 
     let jump : JumpWord = w.0 in
     let meets : MeetsLegality place instr cell jump = w.1 in
     let held : IsHeld g.decl o instr.values =
-    instr_held g.decl instr (graph.functions label instr here) (graph.microwords.each label instr here) in
+    instr_held g.decl instr (graph.microwords.each label instr here) in
     let same : Agrees instr.kind jump t b.sx = agrees instr.kind jump t b.sx meets.admitted in
     let out : ℕ = outcome_of instr.kind t in
     let below : out < outcomes_of instr.kind = outcome_below instr.kind t pr px in

@@ -1,7 +1,5 @@
 -- What the law on chip and flow asks of a program.
-use Rattle.std.specs.Prelude.{ℕ, ◌≡◌, ◌<◌, Some, slice_get}
 use Rattle.field_decl.specs.Declaration.{Declaration, IsDeclaration}
-use Rattle.flow_graph.specs.declared.instructions.Instr.{Instr}
 use Rattle.flow_graph.specs.Graph.{Graph}
 use Rattle.flow_graph.specs.Valid.{IsProgram}
 use Rattle.flow_graph.specs.Microwords.{AllFitDeclaration}
@@ -15,5 +13,3 @@ pub record IsGraph (g : Graph) : Type 0 where
   pub declares : Declares g.decl
   pub program : IsProgram g.rows g.start g.pins g.instrs
   pub microwords : AllFitDeclaration g.decl g.instrs
-  -- a function code has seven bits
-  pub functions : (label : ℕ) (instr : Instr) → slice_get g.instrs label ≡ Some instr → instr.func < 128

@@ -1,7 +1,6 @@
 //! The law that chip and flow match. It stands over the definitions alone, so its functions do nothing.
-ghost use Rattle.std.specs.Prelude.{ℕ, ◌≡◌, ◌<◌, List, Some, slice_get};
+ghost use Rattle.std.specs.Prelude.{ℕ, ◌≡◌, List};
 ghost use Rattle.mcu_jumps.specs.Position.{Position};
-ghost use Rattle.flow_graph.specs.declared.instructions.Instr.{Instr};
 ghost use Rattle.flow_graph.specs.Graph.{Graph, graph_of};
 ghost use Rattle.bus_script.specs.Script.{BusScript};
 ghost use Rattle.bus_script.specs.ScriptFits.{IsScriptFor};
@@ -12,7 +11,7 @@ ghost use Rattle.bus_bench.specs.Chip.{chip_trace};
 ghost use Rattle.bus_bench.specs.Law.{IsGraph};
 ghost use Rattle.bus_bench.specs.Matches.{Matches};
 
-use flow_graph::{Instr, Program};
+use flow_graph::Program;
 use prom_split::placed_words_hold_the_program;
 
 /// The chip matches the flow: for every legal placement, all words that hold the program, with any jumps that are
@@ -31,25 +30,7 @@ pub fn words_of_a_placement()
     placed_words_hold_the_program();
 }
 
-// That a function code has seven bits is known where the code is read. This reads it and does nothing else.
-fn function_has_seven_bits(instr: &Instr)
-    ensures { instr.now.func < 128 }
-{
-    let _ = instr.func.code();
-}
-
-// The same for each instruction.
-fn functions_have_seven_bits(instrs: &[Instr])
-    ensures { (label : ℕ) (instr : Instr) → slice_get instrs.now label ≡ Some instr → instr.func < 128 }
-{
-    for label in 0..instrs.len() {
-        function_has_seven_bits(&instrs[label]);
-    }
-}
-
 /// The graph of every program is one that the law speaks of.
 pub fn programs_have_graphs(program: &Program)
     ensures { IsGraph (graph_of program.now) }
-{
-    functions_have_seven_bits(program.instrs().as_slice());
-}
+{}

@@ -29,6 +29,7 @@ impl Fn7 {
     pub fn new(code: u8) -> Option<Fn7>
         ensures some { IsSome result ↔ (code < 128) }
         ensures value { IfSome result (λ f. f ≡ code) }
+        ensures below { IfSome result (λ f. f < 128) }
     {
         if code < 128 { Some(Fn7 { code }) } else { None }
     }
@@ -38,6 +39,7 @@ impl Fn7 {
     pub fn of(function: u8, group: u8, reg: Reg) -> Option<Fn7>
         ensures some { IsSome result ↔ ((function < 8) × HasRegister group reg) }
         ensures value { IfSome result (λ f. f ≡ 16 * function + selector_of group reg) }
+        ensures below { IfSome result (λ f. f < 128) }
         ensures function { IfSome result (λ f. function_of f ≡ function) }
         ensures group { IfSome result (λ f. group_of f ≡ group) }
         ensures register { IfSome result (λ f. register_of f ≡ reg) }

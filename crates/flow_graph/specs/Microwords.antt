@@ -12,8 +12,10 @@ pub record AreValues (fields : List Field) (values : List ℕ) : Type 0 where
   pub held : (place value : ℕ) (field : Field) → slice_get fields place ≡ Some field → slice_get values place ≡ Some value
       → value < 2 ^ field.width
 
--- an instruction of this declaration: some K bits give its mask, and that of the right shift is 0
+-- an instruction of this declaration: its function code has seven bits, some K bits give its mask, and that of the right
+-- shift is 0
 pub record FitsDeclaration (decl : Declaration) (instr : Instr) : Type 0 where
+  pub function : instr.func < 128
   pub kbits : IsTrue (has_kbits decl.slices decl.kbus instr.mask)
   pub shift : IsTrue (is_shift instr.func) → instr.mask ≡ 0
   pub values : AreValues decl.fields instr.values

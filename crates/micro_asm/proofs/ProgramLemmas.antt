@@ -200,7 +200,7 @@ microword_fits facts decl sound e label instr at =
     let line : IsNamedInstr (declaration_so_far facts.declared) from.0 =
     all_at (IsNamedInstr (declaration_so_far facts.declared)) instrs label from.0 sound.instrs from.1 in
     let placed : FitsDeclaration (declaration_so_far facts.declared) (instr_of instrs from.0) =
-    record { kbits = line.kbits; shift = line.shift; values = line.values } in
+    record { function = line.function; kbits = line.kbits; shift = line.shift; values = line.values } in
     subst (λ (d : Declaration). FitsDeclaration d instr) (completes facts.declared.slices facts.declared decl e)
     (subst (FitsDeclaration (declaration_so_far facts.declared)) from.2 placed)
 

@@ -1,5 +1,5 @@
 -- What the accepted lines of a source say (this project's own choice).
-use Rattle.std.specs.Prelude.{◌≡◌, ℕ, ◌≤◌, List, [], ◌∷◌, ◌++◌, length, map, All, Bool, true, not, ◌&&◌, Option, Some, None, IsTrue, unwrap_or}
+use Rattle.std.specs.Prelude.{◌≡◌, ℕ, ◌≤◌, ◌<◌, List, [], ◌∷◌, ◌++◌, length, map, All, Bool, true, not, ◌&&◌, Option, Some, None, IsTrue, unwrap_or}
 use Rattle.std.specs.List.{filter_map, list_any}
 use Rattle.std.specs.Str.{bytes_eq}
 use Rattle.cpe_slice.specs.FunctionCode.{is_shift}
@@ -107,6 +107,7 @@ pinned_labels pins = map (λ pin. pin.label) pins
 -- an instruction of this declaration
 pub record IsNamedInstr (decl : Declaration) (instr : NamedInstr) : Type 0 where
   pub name : IsName instr.label
+  pub function : instr.func < 128
   pub kbits : IsTrue (has_kbits decl.slices decl.kbus instr.mask)
   pub shift : IsTrue (is_shift instr.func) → instr.mask ≡ 0
   pub values : AreValues decl.fields instr.values

@@ -1,5 +1,5 @@
 -- The function code and the mask of an operation, or why it is refused (this project's own choice).
-use Rattle.std.specs.Prelude.{ℕ, ◌≡◌, ◌+◌, ◌-◌, ◌*◌, ◌^◌, Bool, true, not, ◌&&◌, ◌||◌, ◌==◌, nat_lt, List, [], ◌∷◌, Option, Some, None, find, Result, Ok, Err, codes, IsTrue, if◌then◌else◌}
+use Rattle.std.specs.Prelude.{ℕ, ◌≡◌, ◌+◌, ◌-◌, ◌*◌, ◌^◌, Bool, true, not, ◌&&◌, ◌||◌, ◌==◌, ◌<◌, nat_lt, List, [], ◌∷◌, Option, Some, None, find, Result, Ok, Err, codes, IsTrue, if◌then◌else◌}
 use Rattle.std.specs.Char.{is_ascii_digit}
 use Rattle.std.specs.Str.{bytes_eq}
 use Rattle.cpe_slice.specs.declared.register.Reg.{Reg}
@@ -63,7 +63,8 @@ operation_code slices kbus (operations.Code function group register mask) =
 operation_code slices kbus (operations.Mnemonic name register) =
     mnemonic_code slices kbus register (find (λ row. bytes_eq name row.name) mnemonic_table)
 
--- some K bits give the mask, and that of the right shift is 0
+-- the function code has seven bits, some K bits give the mask, and that of the right shift is 0
 pub record FitsBus (slices kbus : ℕ) (code : ℕ × ℕ) : Type 0 where
+  pub function : code.0 < 128
   pub kbits : IsTrue (has_kbits slices kbus code.1)
   pub shift : IsTrue (is_shift code.0) → code.1 ≡ 0

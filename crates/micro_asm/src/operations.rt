@@ -66,6 +66,7 @@ fn code_in_group(function: u8, group: u8, register: Reg) -> Fn7
     requires group { (1 ≤ group) × (group ≤ 3) }
     requires register { HasRegister group register }
     ensures code { result ≡ 16 * function + selector_of group register }
+    ensures below { result < 128 }
     ensures function { function_of result ≡ function }
     ensures group { group_of result ≡ group }
 {

@@ -6,14 +6,6 @@ use Rattle.std.proofs.lemmas.Bool.{cases_Bool, cases_lt, ne_eqb}
 use Rattle.std.proofs.lemmas.List.{get_or-take, get_or-drop, length-take, length-drop, take-take, drop-drop, drop_all}
 use Rattle.micro_lex.specs.Lines.{pieces, onto_first, without_cr, lines, is_not_lf}
 
--- a front that is one longer, dropped
-drop_one : (p b : ℕ) (bs : List ℕ) → drop (1 + p) (b ∷ bs) ≡ drop p bs
-drop_one p b bs = let e : 1 + p ≡ suc p = omega arith in rw e refl
-
--- and taken
-take_one : (p b : ℕ) (bs : List ℕ) → take (1 + p) (b ∷ bs) ≡ b ∷ take p bs
-take_one p b bs = let e : 1 + p ≡ suc p = omega arith in rw e refl
-
 -- a byte before the first piece lengthens it
 joined : (b : ℕ) (bs : List ℕ) (p : ℕ) → pieces bs ≡ take p bs ∷ pieces (drop (p + 1) bs)
     → onto_first b (pieces bs) ≡ take (1 + p) (b ∷ bs) ∷ pieces (drop (1 + p + 1) (b ∷ bs))

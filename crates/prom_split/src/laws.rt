@@ -6,15 +6,9 @@ ghost use Rattle.field_decl.specs.Declaration.{Declaration};
 ghost use Rattle.flow_graph.specs.Graph.{Graph};
 ghost use Rattle.place_model.specs.Legal.{IsLegal};
 ghost use Rattle.prom_split.specs.Images.{AreImages, AreJoined, FitWords};
-ghost use Rattle.prom_split.specs.Parts.{FitParts, parts_of, width_of, word_by};
+ghost use Rattle.prom_split.specs.Parts.{width_of};
 ghost use Rattle.prom_split.specs.SavedBits.{IsSavedBit};
-ghost use Rattle.prom_split.specs.declared.word_parts.WordParts.{WordParts};
 ghost use Rattle.prom_split.specs.Microword.{AreWords, HoldsProgram};
-
-/// A word that is made of parts has these parts.
-pub fn parts_are_read_back()
-    ensures { (decl : Declaration) (parts : WordParts) → FitParts decl parts → parts_of decl (word_by decl parts) ≡ parts }
-{}
 
 /// Where each bit of the words stands in the saved texts of their images.
 pub fn each_bit_is_saved()

@@ -19,10 +19,7 @@ mod word_list;
 mod word_parts;
 
 pub use joining::{JoinFault, join};
-pub use laws::{
-    each_bit_is_saved, joined_images_are_the_words, parts_are_read_back,
-    placed_words_hold_the_program,
-};
+pub use laws::{each_bit_is_saved, joined_images_are_the_words, placed_words_hold_the_program};
 pub use placed_words::{word_of, words_of};
 pub use splitting::split;
 pub use word_list::Words;

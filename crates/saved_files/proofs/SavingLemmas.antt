@@ -18,13 +18,6 @@ pub record IsSaving (old now : ShelfState) (files : List SavedFile) (count : ℕ
   pub others : KeepsAllBut old now files count
   pub whole : IsTold old → AreWhole now files count
 
--- the files after the one whose save failed stay
-pub later_stay : (old new : ShelfState) (files : List SavedFile) (place later : ℕ) (x : SavedFile) → AreApart files
-    → FailedAt old new files place →
-    place < later → slice_get files later ≡ Some x → new.file x.name ≡ old.file x.name
-later_stay old new files place later x apart failure after at =
-    failure.others x.name (λ i y less here. apart i later y x (omega (arith, less, after)) here at)
-
 -- calls that were made in two parts were made in all
 pub changes_both : (old now new : ShelfState) (a b c d : ℕ) → CountsChanges old now a b → CountsChanges now new c d
     → CountsChanges old new (a + c) (b + d)

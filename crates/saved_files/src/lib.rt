@@ -17,10 +17,7 @@ mod saving;
 mod text;
 mod unsaved;
 
-pub use laws::{
-    later_files_stay, one_written_file_is_saved, placed_files_may_be_saved, saved_placement_stands,
-    saving_from_before,
-};
+pub use laws::one_written_file_is_saved;
 pub use names::{image_name, layout_name, map_name, refutation_name, undecided_name};
 pub use one_file::{begin_file, grow_file, save_file};
 pub use placement_files::placed_files;

@@ -1,6 +1,6 @@
 -- Whole numbers and the digit below them, to the base 4.
 use Rattle.std.proofs.Common.{ℕ, zero, suc, ◌+◌, ◌-◌, ◌*◌, ◌/◌, ◌%◌, ◌^◌, ◌<◌, ◌≤◌, ◌≡◌, bit_and, bit_or, bit_xor, sym, ap, ◌∙◌, arith, mul_comm, subst}
-use Rattle.std.proofs.lemmas.Nat.{and_block, or_block, xor_block, or_lt, xor_lt, mul-pow, pow-add, and_mask}
+use Rattle.std.proofs.lemmas.Nat.{and_block, or_block, xor_block, xor_lt, mul-pow, pow-add, and_mask}
 use Rattle.std.proofs.lemmas.Bool.Decides.{nat_tests}
 use Rattle.std.proofs.Math.Nat.{pow-suc, div-div-eq-div-mul}
 use Rattle.std.proofs.Math.Arith.{mod-mul}
@@ -20,12 +20,6 @@ pub xor_below : (n a b : ℕ) → a < 4 ^ n → b < 4 ^ n → bit_xor a b < 4 ^ 
 xor_below n a b p q =
     subst (λ (l : ℕ). bit_xor a b < l) (sym (pow4 n))
     (xor_lt (n + n) a b (subst (λ (l : ℕ). a < l) (pow4 n) p) (subst (λ (l : ℕ). b < l) (pow4 n) q))
-
--- the or of numbers of n digits has n digits
-pub or_below : (n a b : ℕ) → a < 4 ^ n → b < 4 ^ n → bit_or a b < 4 ^ n
-or_below n a b p q =
-    subst (λ (l : ℕ). bit_or a b < l) (sym (pow4 n))
-    (or_lt (n + n) a b (subst (λ (l : ℕ). a < l) (pow4 n) p) (subst (λ (l : ℕ). b < l) (pow4 n) q))
 
 -- an and of numbers is made digit by digit
 pub and_digits : (a b r s : ℕ) → r < 4 → s < 4 → bit_and (a * 4 + r) (b * 4 + s) ≡ bit_and a b * 4 + bit_and r s

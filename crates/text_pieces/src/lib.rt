@@ -7,4 +7,4 @@
 
 mod writing;
 
-pub use writing::{write_name, write_number};
+pub use writing::write_number;

@@ -1,19 +1,10 @@
-//! Writes the pieces that are not literal text.
+//! Writes the pieces that are numbers.
 
 ghost use Rattle.std.specs.Prelude.{◌≡◌, ◌++◌, OnOk};
 ghost use Rattle.text_pieces.specs.Pieces as pieces;
 
-use field_decl::Name;
 use itoa::Buffer;
 use std::alloc::AllocError;
-
-/// Writes a name at the end of a text. After a refusal of memory nothing is known of the text.
-pub fn write_name(text: &mut Vec<u8>, name: &Name) -> Result<(), AllocError>
-    ensures { OnOk result (text.new.items ≡ text.old.items ++ pieces.piece_text (pieces.Name name.now)) }
-{
-    text.extend_from_slice(name.as_slice())?;
-    Ok(())
-}
 
 /// Writes a decimal number at the end of a text. After a refusal of memory nothing is known of the text.
 pub fn write_number(text: &mut Vec<u8>, number: u128) -> Result<(), AllocError>
