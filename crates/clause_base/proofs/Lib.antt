@@ -1,2 +1,5 @@
 pub mod PoolLemmas
 pub mod ExampleLemmas
+pub mod ListLemmas
+pub mod LiteralLemmas
+pub mod DerivedLemmas

@@ -2,7 +2,7 @@
 ghost use Rattle.std.specs.Prelude.{◌≡◌, ◌<◌, ◌≤◌, ◌+◌, ◌^◌, true, length, IfOk};
 ghost use Rattle.flow_graph.specs.Graph.{graph_of};
 ghost use Rattle.place_model.specs.Legal.{IsLegal};
-ghost use Rattle.placement_clauses.specs.Truth.{AllHold, truth_in};
+ghost use Rattle.clause_base.specs.TruthValues.{AllHold, truth_in};
 ghost use Rattle.placement_clauses.specs.Number.{var_count_of};
 ghost use Rattle.placement_clauses.specs.Shape.{one, any_of};
 ghost use Rattle.placement_clauses.specs.Clauses.{clauses_of};
@@ -10,11 +10,11 @@ ghost use Rattle.placement_clauses.specs.Meaning.{HaveTrueCells};
 ghost use Rattle.placement_clauses.specs.PinCells.{HavePinCells};
 
 use crate::variable_numbers::{col_var, row_var};
+use clause_base::Truths;
 use flow_graph::{Pin, Program};
 use io_base::OutOfMemory;
 use mcu_jumps::Cell;
 use place_model::Placement;
-use placement_clauses::Truths;
 use std::alloc::Global;
 
 /// The cell of each pin is one of the matrix, as the type of a cell says of each.

@@ -4,7 +4,7 @@ ghost use Rattle.mcu_jumps.specs.Position.{Position};
 ghost use Rattle.clause_base.specs.Clauses.{IsClause};
 ghost use Rattle.flow_graph.specs.Graph.{graph_of};
 ghost use Rattle.place_model.specs.Legal.{IsLegal};
-ghost use Rattle.placement_clauses.specs.Truth.{AllHold, truth_in};
+ghost use Rattle.clause_base.specs.TruthValues.{AllHold, truth_in};
 ghost use Rattle.placement_clauses.specs.Number.{var_count_of};
 ghost use Rattle.placement_clauses.specs.Clauses.{clauses_of};
 ghost use Rattle.placement_clauses.specs.Meaning.{meaning};

@@ -2,11 +2,12 @@
 use Rattle.std.proofs.Common.{◌≡◌, ℕ, ℤ, ◌+◌, ◌-◌, ◌<◌, inl, inr, Bool, true, List, [], ◌∷◌, refl, sym, ap, subst, ◌∙◌, arith}
 use Rattle.std.proofs.lemmas.List.Elements.{All-append}
 use Rattle.std.proofs.lemmas.Bool.{cases_lt}
-use Rattle.placement_clauses.specs.Truth.{clause_holds, AllHold}
+use Rattle.clause_base.specs.TruthValues.{clause_holds, AllHold}
 use Rattle.placement_clauses.specs.Number.{plus, minus, row_var, col_var}
 use Rattle.placement_clauses.specs.Shape.{one}
 use Rattle.placement_clauses.specs.Clauses.{at_clauses, bound_clauses}
-use Rattle.placement_clauses.proofs.UptoLemmas.{All-upto, upto-All, All-append_left, All-append_right}
+use Rattle.clause_base.proofs.ListLemmas.{All-append_left, All-append_right}
+use Rattle.placement_clauses.proofs.UptoLemmas.{All-upto, upto-All}
 use Rattle.placement_clauses.proofs.TruthLemmas.{IsHot, hot-here, hot-is, unit-holds, holds-unit, from_minus, to_minus}
 use Rattle.placement_clauses.proofs.PlacedLemmas.{row-at, col-at}
 

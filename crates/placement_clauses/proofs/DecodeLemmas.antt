@@ -15,7 +15,7 @@ use Rattle.flow_graph.specs.Graph.{Graph}
 use Rattle.place_model.specs.Legal.{IsLegal, origin}
 use Rattle.placement_clauses.specs.PinCells.{HavePinCells}
 use Rattle.placement_clauses.specs.Upto.{upto, each_of}
-use Rattle.placement_clauses.specs.Truth.{clause_holds, AllHold}
+use Rattle.clause_base.specs.TruthValues.{clause_holds, AllHold}
 use Rattle.placement_clauses.specs.Number.{row_var, col_var}
 use Rattle.placement_clauses.specs.Shape.{one, any_of}
 use Rattle.placement_clauses.specs.FirstLabel.{first_label}
@@ -26,7 +26,8 @@ use Rattle.placement_clauses.proofs.JumpLemmas.{row-of, col-of, same_cell, cell-
 use Rattle.placement_clauses.proofs.CellLemmas.{at-holds, bound-holds}
 use Rattle.placement_clauses.proofs.OneTargetLemmas.{OneTarget, first-target, only-target, can-goto, can-strobe, can-enable, enable-holds}
 use Rattle.placement_clauses.proofs.EachTest.{IsTest, IsSingle, kind-cases, single-outcome, test-jump}
-use Rattle.placement_clauses.proofs.UptoLemmas.{upto-All, All-append_left, All-append_right, slice_get-append_left, slice_get-append_right}
+use Rattle.clause_base.proofs.ListLemmas.{All-append_left, All-append_right}
+use Rattle.placement_clauses.proofs.UptoLemmas.{upto-All, slice_get-append_left, slice_get-append_right}
 use Rattle.placement_clauses.proofs.TruthLemmas.{IsHot, hot-is, hot-any}
 use Rattle.placement_clauses.proofs.PlacedLemmas.{IsPlaced, Differ, cell_class-holds, apart_class-holds, differ-apart, goto-holds}
 use Rattle.placement_clauses.proofs.TestLemmas.{each-holds, InRange}

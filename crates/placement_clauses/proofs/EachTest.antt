@@ -10,7 +10,7 @@ use Rattle.mcu_jumps.specs.declared.kinds.Kind.TheVariants as kind
 use Rattle.mcu_jumps.specs.declared.codes.Code.{Code}
 use Rattle.mcu_jumps.specs.declared.codes.Code.TheVariants as code
 use Rattle.mcu_jumps.specs.Landing.{outcomes_of}
-use Rattle.placement_clauses.specs.Truth.{AllHold}
+use Rattle.clause_base.specs.TruthValues.{AllHold}
 use Rattle.placement_clauses.specs.Number.{pair_var}
 use Rattle.placement_clauses.proofs.CanJump.{CanJump}
 use Rattle.placement_clauses.specs.Meaning.{row_at, col_at}

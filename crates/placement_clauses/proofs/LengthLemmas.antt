@@ -6,7 +6,7 @@ use Rattle.placement_clauses.specs.Upto.{upto}
 use Rattle.placement_clauses.specs.Number.{plus, minus, row_var, col_var, differ_var, pairs_below}
 use Rattle.placement_clauses.specs.Clauses.{cell_clauses, apart_clauses, cell_class, apart_class, apart_from_earlier}
 use Rattle.placement_clauses.specs.Shape.{one, any_of, not_with_later, no_two, apart_unless}
-use Rattle.placement_clauses.proofs.UptoLemmas.{upto-none, upto-suc, upto-more, length-upto, length-singles, slice_get-singles, slice_get-upto, slice_get-blocks, slice_get-append_left, slice_get-append_right, length-triangle, pairs-more}
+use Rattle.placement_clauses.proofs.UptoLemmas.{upto-none, upto-suc, upto-more, length-upto, length-singles, slice_get-singles, slice_get-upto, slice_get-append_left, slice_get-append_right, length-triangle, pairs-more}
 
 -- one block more
 pub length-more : {A : Type 0} (n : ℕ) (f : ℕ → List A) → length (upto (n + 1) f) ≡ length (upto n f) + length (f n)
@@ -155,12 +155,6 @@ apart-at_col n j i k place lt e =
 pub length-cell_class : (n : ℕ) → length (cell_class n) ≡ n * 618
 length-cell_class n = length-upto 618 n cell_clauses (λ i lt. length-cell i)
 
--- class 1 lies in blocks of 618
-pub cell_class-at : (n i k place : ℕ) → i * 618 + k ≡ place → i < n → k < 618
-    → slice_get (cell_class n) place ≡ slice_get (cell_clauses i) k
-cell_class-at n i k place e lt in_block = ap (slice_get (cell_class n)) (sym e)
-    ∙ slice_get-blocks 618 n cell_clauses i k (λ i lt. length-cell i) lt in_block
-
 -- 48 clauses for each earlier label
 pub length-earlier : (n j : ℕ) → length (apart_from_earlier n j) ≡ j * 48
 length-earlier n j = length-upto 48 j (apart_clauses n j) (λ i lt. length-apart n j i)
@@ -168,15 +162,3 @@ length-earlier n j = length-upto 48 j (apart_clauses n j) (λ i lt. length-apart
 -- 48 clauses for each pair of labels
 pub length-apart_class : (n : ℕ) → length (apart_class n) ≡ pairs_below n * 48
 length-apart_class n = length-triangle 48 n (λ i j. apart_clauses n j i) (λ i j lt below. length-apart n j i)
-
--- class 2 lies in blocks of 48
-pub apart_class-at : (n j i k place : ℕ) → length (upto j (apart_from_earlier n)) + (i * 48 + k) ≡ place → j < n → i < j → k < 48
-    → slice_get (apart_class n) place ≡ slice_get (apart_clauses n j i) k
-apart_class-at n j i k place e j_in i_in k_in =
-    let len : length (apart_from_earlier n j) ≡ j * 48 = length-earlier n j in
-    let within : i * 48 + k < j * 48 = below i j k i_in k_in in
-    ap (slice_get (apart_class n)) (sym e) ∙ slice_get-upto n (apart_from_earlier n) j (i * 48 + k) j_in (omega arith)
-    ∙ slice_get-blocks 48 j (apart_clauses n j) i k (λ i lt. length-apart n j i) i_in k_in
-  where
-    below : (i j k : ℕ) → i < j → k < 48 → i * 48 + k < j * 48
-    below i j k p q = omega arith

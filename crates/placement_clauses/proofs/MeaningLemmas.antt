@@ -10,7 +10,7 @@ use Rattle.mcu_jumps.specs.declared.kinds.Kind.TheVariants as kind
 use Rattle.flow_graph.specs.declared.instructions.Instr.{Instr}
 use Rattle.flow_graph.specs.Graph.{Graph}
 use Rattle.placement_clauses.specs.Upto.{upto, each_of}
-use Rattle.placement_clauses.specs.Truth.{AllHold, truth_in}
+use Rattle.clause_base.specs.TruthValues.{AllHold, truth_in}
 use Rattle.placement_clauses.specs.Number.{row_var, col_var, differ_var, way_var, pairs_below}
 use Rattle.placement_clauses.specs.FirstLabel.{first_label}
 use Rattle.placement_clauses.specs.Clauses.{clauses_of}

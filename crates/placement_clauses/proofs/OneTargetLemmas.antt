@@ -14,14 +14,14 @@ use Rattle.mcu_jumps.specs.JumpWord.{JumpWord, IsJump, operand_count}
 use Rattle.mcu_jumps.specs.NextAddress.{row_after, col_after, lands}
 use Rattle.mcu_jumps.specs.Landing.{Admits, AdmitsGoto}
 use Rattle.place_model.specs.Cells.{IsAt}
-use Rattle.placement_clauses.specs.Truth.{clause_holds, AllHold}
+use Rattle.clause_base.specs.TruthValues.{clause_holds, AllHold}
 use Rattle.placement_clauses.specs.Number.{col_var}
 use Rattle.placement_clauses.specs.Shape.{same}
 use Rattle.placement_clauses.specs.FirstLabel.{first_real, first_label}
 use Rattle.placement_clauses.specs.Reaching.{reaches}
 use Rattle.placement_clauses.specs.Clauses.{reach_clauses, trap_outcome, trap_clauses}
 use Rattle.placement_clauses.specs.Meaning.{row_at, col_at}
-use Rattle.placement_clauses.proofs.UptoLemmas.{All-append_left, All-append_right}
+use Rattle.clause_base.proofs.ListLemmas.{All-append_left, All-append_right}
 use Rattle.placement_clauses.proofs.TruthLemmas.{hot-here, hot-is, same-holds, holds-same}
 use Rattle.placement_clauses.proofs.PlacedLemmas.{IsPlaced, GotoFits}
 use Rattle.placement_clauses.proofs.FirstReal.{first-there}

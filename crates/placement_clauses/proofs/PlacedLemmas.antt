@@ -3,11 +3,12 @@ use Rattle.std.proofs.Common.{◌≡◌, ◌≢◌, ℕ, ℤ, ◌+◌, ◌<◌, 
 use Rattle.std.specs.Prelude.{◌==◌, nat_lt}
 use Rattle.std.proofs.lemmas.List.Elements.{All-append}
 use Rattle.std.proofs.lemmas.Bool.{cases_Bool, cases_lt, eqb-true, eq-eqb, and_parts, and_from, ltb-true, lt-ltb}
-use Rattle.placement_clauses.specs.Truth.{lit_holds, clause_holds, AllHold}
+use Rattle.clause_base.specs.TruthValues.{lit_holds, clause_holds, AllHold}
 use Rattle.placement_clauses.specs.Number.{plus, minus, row_var, col_var, differ_var, way_var}
 use Rattle.placement_clauses.specs.Shape.{one, any_of, no_two, apart_unless}
 use Rattle.placement_clauses.specs.Clauses.{cell_clauses, apart_clauses, cell_class, apart_class, apart_from_earlier, goto_clauses}
-use Rattle.placement_clauses.proofs.UptoLemmas.{All-upto, upto-All, All-append_left, All-append_right}
+use Rattle.clause_base.proofs.ListLemmas.{All-append_left, All-append_right}
+use Rattle.placement_clauses.proofs.UptoLemmas.{All-upto, upto-All}
 use Rattle.placement_clauses.proofs.GotoPieces.{goto_some, goto_cols, goto_zero, goto_low, goto_rows, before_zero, before_low, before_rows}
 use Rattle.placement_clauses.proofs.TruthLemmas.{IsHot, hot-here, hot-is, hot-from, hot-any, hot-no_two, apart-holds, holds-apart, same_where-holds, holds-same_where, two-hold, hold-two, three-hold, hold-three, minus-false, from_minus, from_not, to_minus}
 

@@ -14,7 +14,7 @@ use Rattle.flow_graph.specs.Graph.{Graph}
 use Rattle.flow_graph.specs.Valid.{IsInstr}
 use Rattle.place_model.specs.Legal.{IsLegal}
 use Rattle.placement_clauses.specs.Upto.{upto, each_of}
-use Rattle.placement_clauses.specs.Truth.{clause_holds, AllHold}
+use Rattle.clause_base.specs.TruthValues.{clause_holds, AllHold}
 use Rattle.placement_clauses.specs.Number.{row_var, col_var, differ_var, pair_var, way_var}
 use Rattle.placement_clauses.specs.FirstLabel.{first_label}
 use Rattle.placement_clauses.specs.Meaning.{row_at, col_at}

@@ -8,12 +8,13 @@ use Rattle.std.proofs.lemmas.Option.{slice_get_within}
 use Rattle.std.proofs.lemmas.Bool.{cases_Bool, eqb-true, or_left, or_right}
 use Rattle.mcu_jumps.specs.declared.kinds.Kind.{Kind}
 use Rattle.placement_clauses.specs.Upto.{upto, each_of}
-use Rattle.placement_clauses.specs.Truth.{lit_holds, clause_holds, AllHold}
+use Rattle.clause_base.specs.TruthValues.{lit_holds, clause_holds, AllHold}
 use Rattle.placement_clauses.specs.Number.{plus, minus, row_var, col_var}
 use Rattle.placement_clauses.specs.Shape.{one, plus_at, same}
 use Rattle.placement_clauses.specs.Reaching.{reaches, col_of, keeps_half}
 use Rattle.placement_clauses.specs.Clauses.{reach_lit, reach_clause, reach_clauses, col_clause, col_clauses, outcome_clauses, target_clauses, test_clauses}
-use Rattle.placement_clauses.proofs.UptoLemmas.{All-upto, upto-All, any-upto, upto-any, All-append_left, All-append_right}
+use Rattle.clause_base.proofs.ListLemmas.{All-append_left, All-append_right}
+use Rattle.placement_clauses.proofs.UptoLemmas.{All-upto, upto-All, any-upto, upto-any}
 use Rattle.placement_clauses.proofs.TruthLemmas.{IsHot, hot-here, hot-is, same-holds, holds-same, unit-holds, holds-unit, two-hold, hold-two, minus-false, minus-true, from_not, one-holds, holds-one, one_of}
 use Rattle.placement_clauses.proofs.PlacedLemmas.{IsPlaced, row-at, col-at}
 

@@ -5,13 +5,14 @@ use Rattle.std.proofs.lemmas.List.Elements.{All-nil, All-append}
 use Rattle.std.proofs.lemmas.Option.{slice_get_within}
 use Rattle.std.proofs.lemmas.Bool.{cases_Bool, cases_lt, eqb-false, ne_eqb, ltb-true, ltb-false}
 use Rattle.mcu_jumps.specs.declared.kinds.Kind.{Kind}
-use Rattle.placement_clauses.specs.Truth.{lit_holds, clause_holds, AllHold}
+use Rattle.clause_base.specs.TruthValues.{lit_holds, clause_holds, AllHold}
 use Rattle.placement_clauses.specs.Number.{plus, minus, col_var, differ_var, pair_var}
 use Rattle.placement_clauses.specs.Shape.{one}
 use Rattle.placement_clauses.specs.Reaching.{col_of, keeps_half}
 use Rattle.placement_clauses.specs.FirstLabel.{first_label, first_real}
 use Rattle.placement_clauses.specs.Clauses.{trap_pair, trap_of, trap_outcome, trap_clauses}
-use Rattle.placement_clauses.proofs.UptoLemmas.{All-upto, upto-All, All-append_left, All-append_right}
+use Rattle.clause_base.proofs.ListLemmas.{All-append_left, All-append_right}
+use Rattle.placement_clauses.proofs.UptoLemmas.{All-upto, upto-All}
 use Rattle.placement_clauses.proofs.TruthLemmas.{IsHot, hot-here, hot-is, two-hold, hold-two, three-hold, hold-three, minus-false, from_minus, from_not, to_minus}
 use Rattle.placement_clauses.proofs.PlacedLemmas.{IsPlaced, Differ, col-at}
 use Rattle.placement_clauses.proofs.TestLemmas.{HasCols, each-holds, holds-each}

@@ -3,7 +3,7 @@ use Rattle.std.proofs.Common.{◌≡◌, ℕ, ℤ, zero, suc, ◌+◌, ◌-◌, 
 use Rattle.std.specs.Prelude.{◌==◌}
 use Rattle.std.proofs.lemmas.List.Elements.{All-nil, All-cons, All-head}
 use Rattle.std.proofs.lemmas.Bool.{cases_order, eqb-true, eq-eqb, ne_eqb, not-false, false_from_ne_true}
-use Rattle.placement_clauses.specs.Truth.{lit_holds, clause_holds, AllHold}
+use Rattle.clause_base.specs.TruthValues.{lit_holds, clause_holds, AllHold}
 use Rattle.placement_clauses.specs.Number.{plus, minus}
 use Rattle.placement_clauses.specs.Shape.{one, plus_at, any_of, not_both, not_with_later, no_two, follows, same, follows_where, same_where, not_both_unless, apart_unless}
 use Rattle.placement_clauses.proofs.UptoLemmas.{All-upto, upto-All, any-upto, upto-any}

@@ -2,12 +2,13 @@
 use Rattle.std.proofs.Common.{◌≡◌, ℕ, zero, suc, ◌+◌, ◌-◌, ◌*◌, ◌/◌, ◌<◌, ◌≤◌, inl, inr, Bool, true, false, ◌||◌, List, [], ◌∷◌, ◌++◌, length, get_or, Some, refl, sym, ap, subst, ◌∙◌, arith, add-one}
 use Rattle.std.specs.Prelude.{slice_get}
 use Rattle.std.specs.List.{All, list_any}
-use Rattle.std.proofs.lemmas.List.{length-append, get_or_append_left, get_or-append-add}
+use Rattle.std.proofs.lemmas.List.{length-append}
 use Rattle.std.proofs.lemmas.List.Elements.{All-append, All-nil}
 use Rattle.std.proofs.lemmas.Option.{get_or_from_slice_get}
 use Rattle.std.proofs.lemmas.List.Folds.{list_any-append}
 use Rattle.std.proofs.lemmas.Bool.{cases_order, or_cases, or_left, or_right}
-use Rattle.placement_clauses.specs.Upto.{upto, between}
+use Rattle.clause_base.proofs.ListLemmas.{All-append_left, All-append_right}
+use Rattle.placement_clauses.specs.Upto.{upto}
 use Rattle.placement_clauses.specs.Number.{pairs_below}
 
 -- no number
@@ -23,17 +24,6 @@ upto-suc n f = refl
 -- one number more
 pub upto-more : {A : Type 0} (n : ℕ) (f : ℕ → List A) → upto (n + 1) f ≡ upto n f ++ f n
 upto-more n f = ap (λ m. upto m f) (add-one n) ∙ upto-suc n f
-
--- no number between
-pub between-none : {A : Type 0} (a : ℕ) (f : ℕ → List A) → between a a f ≡ []
-between-none a f = let e : a - a ≡ 0 = omega arith in ap (λ m. upto m (λ k. f (a + k))) e ∙ upto-none (λ k. f (a + k))
-
--- one number more between
-pub between-more : {A : Type 0} (a b : ℕ) (f : ℕ → List A) → a ≤ b → between a (b + 1) f ≡ between a b f ++ f b
-between-more a b f le =
-    let e : b + 1 - a ≡ suc (b - a) = omega arith in
-    let same : a + (b - a) ≡ b = omega arith in
-    ap (λ m. upto m (λ k. f (a + k))) e ∙ upto-suc (b - a) (λ k. f (a + k)) ∙ ap (λ m. between a b f ++ f m) same
 
 -- blocks of one length
 pub length-upto : {A : Type 0} (m n : ℕ) (f : ℕ → List A) → ((k : ℕ) → k < n → length (f k) ≡ m) → length (upto n f) ≡ n * m
@@ -98,14 +88,6 @@ pub All-upto : {A : Type 0} (P : A → Type 0) (n : ℕ) (f : ℕ → List A) �
 All-upto P zero f h = subst (All P) (sym (upto-none f)) (All-nil P)
 All-upto P (suc n) f h =
     subst (All P) (sym (upto-suc n f)) (All-append P (upto n f) (f n) (All-upto P n f (λ k lt. h k (omega arith))) (h n (omega arith)))
-
--- a fact of all elements holds in the first of two lists
-pub All-append_left : {A : Type 0} (P : A → Type 0) (xs ys : List A) → All P (xs ++ ys) → All P xs
-All-append_left P xs ys h k d lt = subst P (get_or_append_left xs ys d k lt) (h k d (omega (arith, length-append xs ys)))
-
--- a fact of all elements holds in the second of two lists
-pub All-append_right : {A : Type 0} (P : A → Type 0) (xs ys : List A) → All P (xs ++ ys) → All P ys
-All-append_right P xs ys h k d lt = subst P (get_or-append-add xs ys k d) (h (length xs + k) d (omega (arith, length-append xs ys)))
 
 -- and the other way round
 pub upto-All : {A : Type 0} (P : A → Type 0) (n : ℕ) (f : ℕ → List A) → All P (upto n f) → (k : ℕ) → k < n → All P (f k)

@@ -1,5 +1,4 @@
 pub mod Upto
-pub mod Truth
 pub mod Number
 pub mod Shape
 pub mod FirstLabel

@@ -7,7 +7,3 @@
 //!
 //! Contracts: its lemmas, through `clause_encode`.
 #![tactic(auto)]
-
-mod truths;
-
-pub use truths::Truths;

@@ -26,16 +26,6 @@ implied_zero es l i e there low = by (e.reason == 0) refl
     by true t = let lt : 0 < e.level = above (eqb-true e.reason 0 t) in absurd (omega arith)
     by false t = let ne : e.reason ≢ 0 = eqb-false e.reason 0 t in omega arith
 
--- at the start nothing has to be closed
-pub Closes_none : (cs : List (List ℤ)) (es : List Entry) (places : List ℕ) (from : ℕ) (marks : List Bool)
-    → ((i : ℕ) (e : Entry) → from ≤ i → slice_get es i ≡ Some e → 0 < e.level) → Closes cs es places from marks marks
-Closes_none cs es places from marks above = record {
-  sized = refl;
-  kept = λ i h. h;
-  only = λ i e there h. inl h;
-  closed = λ i e c k le there low on named h. let lt : 0 < e.level = above i e le there in absurd (omega arith);
-}
-
 -- one place less, whose entry is not of level 0 or not marked
 pub Closes_past : (cs : List (List ℤ)) (es : List Entry) (places : List ℕ) (place : ℕ) (old new : List Bool)
     → ((e : Entry) → slice_get es place ≡ Some e → e.level ≡ 0 → slice_get new place ≡ Some true → ⊥)

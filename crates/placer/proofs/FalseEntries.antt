@@ -10,11 +10,11 @@ use Rattle.std.proofs.lemmas.Option.{slice_get-get_or, slice_get_within, get_or_
 use Rattle.clause_base.specs.Lit.{var_of, is_positive}
 use Rattle.clause_base.specs.Truth.{lits_of, sign_in}
 use Rattle.clause_base.specs.declared.entry.Entry.{Entry}
+use Rattle.clause_base.proofs.LiteralLemmas.{sign_none_first}
 use Rattle.trail.specs.Assignment.{value_of, sign_of, level_of, IsTrail, IsLevelled}
 use Rattle.trail.proofs.Levels.{level-below}
-use Rattle.placer.proofs.EntryValues.{value_one_false}
+use Rattle.propagate.proofs.Values.{value_one_false}
 use Rattle.placer.specs.Learning.{level_at}
-use Rattle.placer.proofs.Signs.{step-none}
 
 -- an entry makes the literal false
 pub record IsNegatedBy (es : List Entry) (z : ℤ) : Type 0 where
@@ -61,10 +61,10 @@ level_there (x ∷ es) zero e fresh there =
     (eq-eqb (var_of x.lit) (var_of e.lit) (ap (λ (y : Entry). var_of y.lit) same)) ∙ ap (λ (y : Entry). y.level) same
 level_there (x ∷ es) (suc i) e fresh there =
     let none : sign_in (var_of e.lit) (x.lit ∷ lits_of (take i es)) ≡ None = fresh (suc i) e there in
-    let other : var_of x.lit ≡ var_of e.lit → ⊥ = (step-none (var_of e.lit) x.lit (lits_of (take i es)) none).0 in
+    let other : var_of x.lit ≡ var_of e.lit → ⊥ = (sign_none_first (var_of e.lit) x.lit (lits_of (take i es)) none).0 in
     let no : (var_of x.lit == var_of e.lit) ≡ false = by (var_of x.lit == var_of e.lit) refl other in
     ap (λ b. if b then x.level else level_at (var_of e.lit) es) no
-    ∙ level_there es i e (λ k d at. (step-none (var_of d.lit) x.lit (lits_of (take k es)) (fresh (suc k) d at)).1) there
+    ∙ level_there es i e (λ k d at. (sign_none_first (var_of d.lit) x.lit (lits_of (take k es)) (fresh (suc k) d at)).1) there
   where
     by : (b : Bool) → (var_of x.lit == var_of e.lit) ≡ b → (var_of x.lit ≡ var_of e.lit → ⊥) → b ≡ false
     by true t other = absurd (other (eqb-true (var_of x.lit) (var_of e.lit) t))

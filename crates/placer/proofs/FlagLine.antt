@@ -9,10 +9,11 @@ use Rattle.clause_base.specs.Refutation.{Derived, IsUnitRun}
 use Rattle.clause_base.specs.Truth.{lits_of, IsNumbered, IsConflict}
 use Rattle.clause_base.specs.declared.entry.Entry.{Entry}
 use Rattle.clause_base.specs.declared.line.Line.{Line}
+use Rattle.clause_base.proofs.LiteralLemmas.{var_neg}
 use Rattle.trail.specs.Assignment.{IsTrail}
 use Rattle.propagate.specs.Standing.{AreForced}
 use Rattle.placer.specs.Marking.{negation_if, reason_if}
-use Rattle.placer.proofs.Signs.{trail-apart, apart-pairs, var-neg}
+use Rattle.placer.proofs.Signs.{trail-apart, apart-pairs}
 use Rattle.placer.proofs.FlagRun.{IsClosed, run_flags}
 use Rattle.placer.proofs.KeptEntries.{all_kept, apart_kept, negated_kept}
 
@@ -43,10 +44,10 @@ module _ (vars : ℕ) (cs : List (List ℤ)) (es : List Entry) (n : ℕ) (kept u
       Derived (record { vars = vars; clauses = cs }) line
   Derived_flags line clause_is hints_is = record {
     above = subst (λ (l : List ℤ). All (λ y. 0 < var_of y) l) (sym clause_is)
-        (all_kept kept (λ y. 0 < var_of y) es (λ i e there h. subst (λ (v : ℕ). 0 < v) (sym (var-neg e.lit)) (t i e there).above));
+        (all_kept kept (λ y. 0 < var_of y) es (λ i e there h. subst (λ (v : ℕ). 0 < v) (sym (var_neg e.lit)) (t i e there).above));
     in_range = subst (λ (l : List ℤ). All (λ y. var_of y ≤ vars) l) (sym clause_is)
         (all_kept kept (λ y. var_of y ≤ vars) es
-        (λ i e there h. subst (λ (v : ℕ). v ≤ vars) (sym (var-neg e.lit)) (t i e there).in_range));
+        (λ i e there h. subst (λ (v : ℕ). v ≤ vars) (sym (var_neg e.lit)) (t i e there).in_range));
     apart = subst (λ (l : List ℤ). AllPairs (λ x y. var_of x ≢ var_of y) l) (sym clause_is)
         (apart-pairs (flat_map (negation_if kept) es) (apart_kept kept es (trail-apart vars es t)));
     run = subst (λ (l : List ℤ). IsUnitRun cs (map neg_ℤ l) line.hints) (sym clause_is)

@@ -11,8 +11,9 @@ use Rattle.clause_base.specs.Refutation.{IsUnitRun}
 use Rattle.clause_base.specs.declared.entry.Entry.{Entry}
 use Rattle.trail.specs.Assignment.{sign_of, value_of, IsTrail}
 use Rattle.propagate.specs.Standing.{AreForced}
-use Rattle.placer.proofs.Signs.{value-none, sign-none}
-use Rattle.placement_clauses.proofs.UptoLemmas.{All-append_left, All-append_right}
+use Rattle.trail.proofs.Signs.{sign-unassigned}
+use Rattle.placer.proofs.Signs.{value-none}
+use Rattle.clause_base.proofs.ListLemmas.{All-append_left, All-append_right}
 use Rattle.placer.proofs.UnitSteps.{forced_at}
 use Rattle.placer.proofs.MarkedRun.{part_of, hint_of, marked_of, run_marked}
 
@@ -117,7 +118,7 @@ module _ (vars : ℕ) (cs : List (List ℤ)) (es : List Entry) (n : ℕ) (k u : 
           back = a.unit.back;
           split = a.unit.split;
           unassigned = value-none e.lit (flat_map (marked_of (flagged k) (flagged u)) before)
-              (none_flagged k u (var_of e.lit) before (sign-none e.lit (lits_of before) a.unit.unassigned));
+              (none_flagged k u (var_of e.lit) before (sign-unassigned e.lit before a.unit.unassigned));
           before = part_false before e.lit a.unit.front a.unit.unassigned a.unit.before
               (All-append_left P a.unit.front (e.lit ∷ a.unit.back) parts);
           after = part_false before e.lit a.unit.back a.unit.unassigned a.unit.after

@@ -9,9 +9,10 @@ use Rattle.std.proofs.lemmas.Option.{same_Some}
 use Rattle.clause_base.specs.Lit.{var_of, is_positive}
 use Rattle.clause_base.specs.Truth.{lits_of, sign_in}
 use Rattle.clause_base.specs.declared.entry.Entry.{Entry}
+use Rattle.clause_base.proofs.LiteralLemmas.{var_neg, neg_neg, sign_none_first}
 use Rattle.trail.specs.Assignment.{sign_of}
 use Rattle.placer.specs.Marking.{negation_if}
-use Rattle.placer.proofs.Signs.{AreApart, var-neg, neg-neg, step-none}
+use Rattle.placer.proofs.Signs.{AreApart}
 use Rattle.placer.proofs.MarkedRun.{part_of}
 use Rattle.placer.proofs.FlagRun.{flagged}
 
@@ -74,13 +75,13 @@ there_kept k (e ∷ es) z h = ⊎_elim
 -- a variable with no sign has none among the kept
 none_kept : (k : ℕ → Bool) (v : ℕ) (es : List Entry) → sign_of v es ≡ None → sign_in v (flat_map (negation_if k) es) ≡ None
 none_kept k v [] h = refl
-none_kept k v (e ∷ es) h = by (k (var_of e.lit)) (none_kept k v es (step-none v e.lit (lits_of es) h).1)
+none_kept k v (e ∷ es) h = by (k (var_of e.lit)) (none_kept k v es (sign_none_first v e.lit (lits_of es) h).1)
   where
     by : (p : Bool) → sign_in v (flat_map (negation_if k) es) ≡ None
         → sign_in v ((if p then neg_ℤ e.lit ∷ [] else []) ++ flat_map (negation_if k) es) ≡ None
     by true r =
         let no : (var_of (neg_ℤ e.lit) == v) ≡ false =
-        ne_eqb (var_of (neg_ℤ e.lit)) v (λ s. (step-none v e.lit (lits_of es) h).0 (sym (var-neg e.lit) ∙ s)) in
+        ne_eqb (var_of (neg_ℤ e.lit)) v (λ s. (sign_none_first v e.lit (lits_of es) h).0 (sym (var_neg e.lit) ∙ s)) in
         ap (λ b. if b then Some (is_positive (neg_ℤ e.lit)) else sign_in v (flat_map (negation_if k) es)) no ∙ r
     by false r = r
 
@@ -91,7 +92,7 @@ apart_kept k (e ∷ es) a = by (k (var_of e.lit)) (apart_kept k es a.1)
   where
     by : (p : Bool) → AreApart (flat_map (negation_if k) es)
         → AreApart ((if p then neg_ℤ e.lit ∷ [] else []) ++ flat_map (negation_if k) es)
-    by true r = (none_kept k (var_of (neg_ℤ e.lit)) es (ap (λ w. sign_of w es) (var-neg e.lit) ∙ a.0), r)
+    by true r = (none_kept k (var_of (neg_ℤ e.lit)) es (ap (λ w. sign_of w es) (var_neg e.lit) ∙ a.0), r)
     by false r = r
 
 -- the negations are the entries' literals
@@ -102,5 +103,5 @@ negated_kept k (e ∷ es) = by (k (var_of e.lit)) (negated_kept k es)
     by : (b : Bool) → map neg_ℤ (flat_map (negation_if k) es) ≡ flat_map (part_of (flagged k)) es
         → map neg_ℤ ((if b then neg_ℤ e.lit ∷ [] else []) ++ flat_map (negation_if k) es) ≡ (if b then e.lit ∷ [] else []) ++ flat_map
         (part_of (flagged k)) es
-    by true h = ap (λ z. z ∷ map neg_ℤ (flat_map (negation_if k) es)) (neg-neg e.lit) ∙ ap (λ l. e.lit ∷ l) h
+    by true h = ap (λ z. z ∷ map neg_ℤ (flat_map (negation_if k) es)) (neg_neg e.lit) ∙ ap (λ l. e.lit ∷ l) h
     by false h = h

@@ -9,11 +9,11 @@ use Rattle.clause_base.specs.Refutation.{Derived}
 use Rattle.clause_base.specs.Truth.{lits_of, IsNumbered, IsConflict}
 use Rattle.clause_base.specs.declared.entry.Entry.{Entry}
 use Rattle.clause_base.specs.declared.line.Line.{Line}
+use Rattle.clause_base.proofs.LiteralLemmas.{var_neg}
 use Rattle.trail.specs.Assignment.{level_of, IsTrail, IsLevelled}
 use Rattle.trail.proofs.Levels.{IsTrail-levelled}
 use Rattle.propagate.specs.Standing.{AreForced}
 use Rattle.placer.specs.Marking.{ArePlaces, HasPlace, Marks, Closes, is_used, is_kept, negation_if, reason_if}
-use Rattle.placer.proofs.Signs.{var-neg}
 use Rattle.placer.proofs.FalseEntries.{IsNegatedBy, false_entry, level_most}
 use Rattle.placer.proofs.Resolving.{IsEarlier, place_neg, reason_cases}
 use Rattle.placer.proofs.Closing.{implied_zero}
@@ -62,7 +62,7 @@ module _ (vars : ℕ) (cs : List (List ℤ)) (es : List Entry) (places : List �
   -- a marked entry has a flag, said of the negation of its literal
   flagged_neg : (i : ℕ) (e : Entry) (y : ℤ) → slice_get es i ≡ Some e → slice_get marks i ≡ Some true → y ≡ neg_ℤ e.lit →
       (kept (var_of y) || used (var_of y)) ≡ true
-  flagged_neg i e y there on is = ap (λ v. kept v || used v) (ap var_of is ∙ var-neg e.lit)
+  flagged_neg i e y there on is = ap (λ v. kept v || used v) (ap var_of is ∙ var_neg e.lit)
       ∙ entry_flagged vars es places marks 0 i e t p there on
 
   -- the reason of a used entry is flagged

@@ -1,8 +1,5 @@
 pub mod Signs
-pub mod Fronts
 pub mod BoardParts
-pub mod ChangedPlaces
-pub mod EntryValues
 pub mod UnitSteps
 pub mod LastDecision
 pub mod NewLine

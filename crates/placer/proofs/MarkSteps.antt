@@ -8,7 +8,7 @@ use Rattle.std.proofs.lemmas.List.Elements.{Contains-append_left, Contains-push,
 use Rattle.std.proofs.lemmas.Option.{same_Some, get_or_from_slice_get}
 use Rattle.clause_base.specs.Lit.{var_of}
 use Rattle.clause_base.specs.declared.entry.Entry.{Entry}
-use Rattle.placer.proofs.ChangedPlaces.{get_set_same, get_set_other, get_set_cases}
+use Rattle.clause_base.proofs.ListLemmas.{get_set_same, get_set_other, get_set_cases}
 use Rattle.placer.specs.Marking.{IsWithin, HasPlace, HasPlaceAt, HasOther, Marks, Lowers, IsBack}
 
 -- a place of a literal stays with one literal more
@@ -26,22 +26,6 @@ has_push places xs z k h = ⊎_elim
     (λ (old : Contains xs h.lit). let r : HasPlace places xs k = record { lit = h.lit; held = old; there = h.there } in inl r)
     (λ (same : z ≡ h.lit). inr (ap (λ y. slice_get places (var_of y)) same ∙ h.there))
     (Contains-push_cases xs z h.lit h.held)
-
--- no literal has no place
-has_none : (places : List ℕ) (k : ℕ) → HasPlace places [] k → ⊥
-has_none places k h = let lt : h.held.0 < length {A = ℤ} [] = h.held.1 in absurd (omega arith)
-
--- nothing is marked for no literal
-pub Marks_none : (places : List ℕ) (marks : List Bool) → Marks places [] marks marks
-Marks_none places marks = record { sized = refl; kept = λ i h. h; held = λ i h. absurd (has_none places i h); only = λ i h. inl h }
-
--- no literal lowers nothing
-pub Lowers_none : (es : List Entry) (places : List ℕ) (level lowest : ℕ) → Lowers es places level [] lowest lowest
-Lowers_none es places level lowest = record { lower = omega arith; least = λ i h. absurd (has_none places i h.held); own = inl refl }
-
--- no literal has no level
-pub IsBack_none : (es : List Entry) (places : List ℕ) (point : ℕ) → IsBack es places point [] 0
-IsBack_none es places point = record { most = λ l h. absurd (has_none places h.place h.held.held); met = inl refl }
 
 -- one literal more is marked
 pub Marks_push : (places : List ℕ) (xs : List ℤ) (z : ℤ) (p : ℕ) (old mid : List Bool) → slice_get places (var_of z) ≡ Some p

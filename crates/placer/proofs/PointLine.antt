@@ -13,14 +13,14 @@ use Rattle.clause_base.specs.Refutation.{Derived}
 use Rattle.clause_base.specs.Truth.{lits_of, IsFalse, IsNumbered, IsConflict}
 use Rattle.clause_base.specs.declared.entry.Entry.{Entry}
 use Rattle.clause_base.specs.declared.line.Line.{Line}
+use Rattle.clause_base.proofs.LiteralLemmas.{var_neg}
 use Rattle.trail.specs.Assignment.{value_of, level_of, IsTrail, IsLevelled}
 use Rattle.trail.proofs.Levels.{IsTrail-levelled}
 use Rattle.propagate.specs.Standing.{AreForced}
-use Rattle.placer.proofs.EntryValues.{false_there}
+use Rattle.propagate.proofs.Values.{false_there}
 use Rattle.placer.specs.FirstPoint.{IsMarked, IsFirstPoint, IsKeptAt, IsFirstPointClause, by_conflict, by_reason}
 use Rattle.placer.specs.Learning.{level_at, Asserts}
 use Rattle.placer.specs.Marking.{ArePlaces, HasPlace, HasOther, IsLowest, IsAtPlace, Closes, IsBack, is_used, is_kept, negation_if, reason_if}
-use Rattle.placer.proofs.Signs.{var-neg}
 use Rattle.placer.proofs.FalseEntries.{IsNegatedBy, false_entry, take_entry, level_there, level_most, level_rises}
 use Rattle.placer.proofs.Resolving.{IsEarlier, place_neg, reason_cases, reason_after}
 use Rattle.placer.proofs.Closing.{implied_zero}
@@ -67,7 +67,7 @@ module _ (vars : ℕ) (cs : List (List ℤ)) (es : List Entry) (places : List �
   -- a marked entry has a flag, said of the negation of its literal
   flagged_neg : (i : ℕ) (e : Entry) (y : ℤ) → slice_get es i ≡ Some e → slice_get marks i ≡ Some true → y ≡ neg_ℤ e.lit
       → (kept (var_of y) || used (var_of y)) ≡ true
-  flagged_neg i e y there on is = ap (λ v. kept v || used v) (ap var_of is ∙ var-neg e.lit)
+  flagged_neg i e y there on is = ap (λ v. kept v || used v) (ap var_of is ∙ var_neg e.lit)
       ∙ entry_flagged vars es places marks q i e t p there on
 
   -- a used entry is implied
@@ -179,7 +179,7 @@ module _ (vars : ℕ) (cs : List (List ℤ)) (es : List Entry) (places : List �
 
   -- the level of a literal
   level_neg : (i : ℕ) (e : Entry) → slice_get es i ≡ Some e → level_at (var_of (neg_ℤ e.lit)) es ≡ e.level
-  level_neg i e there = ap (λ v. level_at v es) (var-neg e.lit) ∙ level_there es i e (λ j d at. (t j d at).fresh) there
+  level_neg i e there = ap (λ v. level_at v es) (var_neg e.lit) ∙ level_there es i e (λ j d at. (t j d at).fresh) there
 
   -- another kept literal is of a level up to `back`
   other_kept : (back i : ℕ) (e : Entry) → IsBack es places q (flat_map (negation_if kept) es) back → slice_get es i ≡ Some e → i ≢ q

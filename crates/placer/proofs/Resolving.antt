@@ -8,11 +8,11 @@ use Rattle.std.proofs.lemmas.Option.{slice_get_within, same_Some}
 use Rattle.clause_base.specs.Lit.{var_of}
 use Rattle.clause_base.specs.Truth.{lits_of, IsFalse, IsNumbered, Forces}
 use Rattle.clause_base.specs.declared.entry.Entry.{Entry}
+use Rattle.clause_base.proofs.LiteralLemmas.{var_neg}
 use Rattle.trail.specs.Assignment.{value_of, level_of, IsTrail, IsLevelled}
 use Rattle.propagate.specs.Standing.{AreForced}
 use Rattle.placer.specs.FirstPoint.{IsMarked, IsPoint, by_reason}
 use Rattle.placer.specs.Marking.{IsWithin, ArePlaces, HasPlace, HasPlaceAt, Marks, Lowers, IsLowest, IsAtPlace}
-use Rattle.placer.proofs.Signs.{var-neg}
 use Rattle.placer.proofs.FalseEntries.{IsNegatedBy, false_entry, take_entry, level_most, level_rises, implied_after}
 use Rattle.placer.proofs.MarkedPlaces.{marked_less, IsHeldBy, marked_step}
 
@@ -55,7 +55,7 @@ module _ (vars : ℕ) (cs : List (List ℤ)) (es : List Entry) (places : List �
 
   -- the place of the negation of an entry's literal
   pub place_neg : (i : ℕ) (e : Entry) → slice_get es i ≡ Some e → slice_get places (var_of (neg_ℤ e.lit)) ≡ Some i
-  place_neg i e there = ap (slice_get places) (var-neg e.lit) ∙ p.told i e there
+  place_neg i e there = ap (slice_get places) (var_neg e.lit) ∙ p.told i e there
 
   -- a false clause's literals have places
   pub within_false : (clause : List ℤ) (count : ℕ) → length es ≤ count → IsFalse (lits_of es) clause → All (IsWithin places count) clause

@@ -7,12 +7,13 @@ use Rattle.std.proofs.lemmas.Option.{slice_get_within, get_or_from_slice_get, sa
 use Rattle.clause_base.specs.Lit.{var_of}
 use Rattle.clause_base.specs.Truth.{lits_of, IsFalse, IsNumbered, IsSatisfied, HasTwo}
 use Rattle.clause_base.specs.declared.entry.Entry.{Entry}
+use Rattle.clause_base.proofs.LiteralLemmas.{var_neg}
 use Rattle.trail.specs.Assignment.{value_of, level_of, IsTrail}
 use Rattle.propagate.specs.Standing.{AreSettledBelow, up_to}
 use Rattle.placer.specs.FirstPoint.{IsMarked, by_conflict, by_reason}
 use Rattle.placer.specs.Learning.{level_at}
 use Rattle.placer.specs.Marking.{ArePlaces, HasPlace, HasPlaceAt, Marks, Lowers, IsLowest, IsAtPlace}
-use Rattle.placer.proofs.Signs.{trail-apart, value-kept, var-neg}
+use Rattle.placer.proofs.Signs.{trail-apart, value-kept}
 use Rattle.placer.proofs.FalseEntries.{IsNegatedBy, false_entry, level_there, level_most}
 
 -- nothing is marked at first
@@ -24,7 +25,7 @@ none_blank (suc n) (suc i) h = none_blank n i h
 module _ (vars : ℕ) (cs : List (List ℤ)) (es : List Entry) (places : List ℕ) (t : IsTrail vars es) (p : ArePlaces vars es places) where
   -- the place of the negation of an entry's literal
   place_neg : (i : ℕ) (e : Entry) → slice_get es i ≡ Some e → slice_get places (var_of (neg_ℤ e.lit)) ≡ Some i
-  place_neg i e there = ap (slice_get places) (var-neg e.lit) ∙ p.told i e there
+  place_neg i e there = ap (slice_get places) (var_neg e.lit) ∙ p.told i e there
 
   -- a false clause of the list has a literal of the present level
   pub present_there : (n : ℕ) (clause : List ℤ) → AreSettledBelow cs es → 0 < level_of es → IsNumbered cs n clause
@@ -51,7 +52,7 @@ module _ (vars : ℕ) (cs : List (List ℤ)) (es : List Entry) (places : List �
           let v : value_of z es ≡ Some false = All-contains (λ y. value_of y es ≡ Some false) clause z all_false holds in
           let r : IsNegatedBy es z = false_entry z es (λ i e there. (t i e there).above) v in
           let level : level_at (var_of z) es ≡ r.entry.level = ap (λ y. level_at (var_of y) es) r.is
-          ∙ ap (λ w. level_at w es) (var-neg r.entry.lit)
+          ∙ ap (λ w. level_at w es) (var_neg r.entry.lit)
           ∙ level_there es r.place r.entry (λ i e there. (t i e there).fresh) r.there in
           let most : r.entry.level ≤ level_of es = level_most vars es t r.place r.entry r.there in
           let ne : r.entry.level ≢ level_of es = none z r.place r.entry holds r.there r.is in

@@ -9,10 +9,11 @@ use Rattle.clause_base.specs.Lit.{var_of}
 use Rattle.clause_base.specs.Truth.{lits_of, value_in, Forces, IsFalse}
 use Rattle.clause_base.specs.Refutation.{IsUnitRun}
 use Rattle.clause_base.specs.declared.entry.Entry.{Entry}
+use Rattle.clause_base.proofs.LiteralLemmas.{value_of_sign}
 use Rattle.trail.specs.Assignment.{Follows, IsTrail}
 use Rattle.trail.proofs.Order.{IsTrail-at}
 use Rattle.propagate.specs.Standing.{AreForced}
-use Rattle.placer.proofs.Signs.{In, AreApart, same-sign, value-of_sign}
+use Rattle.placer.proofs.Signs.{In, AreApart, same-sign}
 
 -- an entry with those before it
 pub follows_at : (vars : ℕ) (before : List Entry) (e : Entry) (rest : List Entry) → IsTrail vars (before ++ e ∷ rest)
@@ -46,4 +47,4 @@ pub false_under : (all held front : List ℤ) → AreApart all → ((z : ℤ) �
     → (clause : List ℤ) → IsFalse front clause → IsFalse held clause
 false_under all held front apart sub pre clause h =
     All-weaker (λ z. value_in z front ≡ Some false) (λ z. value_in z held ≡ Some false)
-    (λ z v. value-of_sign z front held (λ s e. same-sign all held front apart sub pre (var_of z) s e) false v) clause h
+    (λ z v. value_of_sign z front held (λ s e. same-sign all held front apart sub pre (var_of z) s e) false v) clause h

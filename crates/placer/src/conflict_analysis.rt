@@ -70,8 +70,6 @@ fn resolve(
         return lowest;
     }
     let trail = board.trail();
-    // A proof learns here that the trail is in order.
-    let _ordered = trail.len();
     let level = trail.level();
     let reason = board.list().get(trail.entry(place).reason);
     mark_clause(places, reason, marks);
@@ -114,12 +112,7 @@ fn close_at(board: &Board, places: &[usize], place: usize, marks: &mut [bool])
     ensures room { length marks.new ≡ length marks.old }
     ensures closes { (first : List Bool) → Closes board.now.list.clauses board.now.trail.entries places.now (place + 1) first marks.old → Closes board.now.list.clauses board.now.trail.entries places.now place first marks.new }
 {
-    let trail = board.trail();
-    // A proof learns here that the trail is in order.
-    let _ordered = trail.len();
-    // A proof learns here that levels never fall.
-    let _levelled = trail.level();
-    let entry = trail.entry(place);
+    let entry = board.trail().entry(place);
     if entry.level != 0 {
         return;
     }
@@ -139,8 +132,6 @@ fn end_of_level_zero(board: &Board, end: usize) -> usize
     ensures begun { (i : ℕ) (e : Entry) → result ≤ i → slice_get board.now.trail.entries i ≡ Some e → 0 < e.level }
 {
     let trail = board.trail();
-    // A proof learns here that the trail is in order.
-    let _ordered = trail.len();
     let mut low = 0;
     let mut high = end;
     'halving: while low < high {

@@ -45,8 +45,6 @@ fn learnt_by(
     ensures first_point { IfOk result (λ learnt. IsFirstPointClause board.now.list.clauses board.now.trail.entries conflict learnt.line.clause) }
 {
     let trail = board.trail();
-    // A proof learns here that the trail is in order.
-    let _ordered = trail.len();
     let point = first_point(board, conflict, places, marks);
     close_marks(board, places, point, marks);
     let line = marked_line(alloc, board, conflict, places, marks, point)?;
@@ -88,9 +86,9 @@ pub(crate) fn analyse_in(
     ensures places { OnOk result (ArePlaces board.now.list.vars board.now.trail.entries workspace.new.places.items) }
     ensures blank { OnOk result (workspace.new.marks.items ≡ replicate (board.now.list.vars + 1) false) }
 {
-    let vars = board.list().vars();
-    // A proof learns here that the trail is in order.
-    let _ordered = board.trail().len();
+    // A proof learns here what the board keeps of its clauses and its trail.
+    let _clauses = board.list();
+    let _trail = board.trail();
     workspace.follow(board);
     let learnt = learnt_by(
         alloc,
@@ -160,8 +158,6 @@ pub(crate) fn learn_from(
     ensures learns { OnOk result (Learns board.old board.new hints.old.items hints.new.items) }
     ensures ready { OnOk result (IsReady board.new.list.vars board.new.trail.entries workspace.new) }
 {
-    // A proof learns here that the trail is in order.
-    let _ordered = board.trail().len();
     let learnt = analyse_in(alloc, board, conflict, workspace)?;
     turns.put_back_above(board.trail(), learnt.back);
     turns.count_conflict();

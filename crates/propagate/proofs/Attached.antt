@@ -21,7 +21,8 @@ use Rattle.propagate.specs.declared.pairs.Pair.{Pair}
 use Rattle.propagate.proofs.Conclusions.{code_listed, value_own}
 use Rattle.propagate.proofs.Guarding.{are_guarded_lists, are_guarded_push, are_guarded_append, guarded_append, guarded_free}
 use Rattle.propagate.proofs.Listed.{listed_push, listed_here, laid_push, laid_pair_push}
-use Rattle.propagate.proofs.Values.{sign_none, var_neg}
+use Rattle.clause_base.proofs.LiteralLemmas.{var_neg}
+use Rattle.propagate.proofs.Values.{sign_none}
 use Rattle.propagate.proofs.Steps.{front_same}
 use Rattle.propagate.specs.Propagation.{Extends}
 use Rattle.propagate.proofs.Forcing.{AreForced_push}

@@ -21,7 +21,7 @@ use Rattle.propagate.specs.declared.visits.Visit.{Visit}
 use Rattle.propagate.specs.declared.visits.Visit.TheVariants.{Kept, Moved, Conflict}
 use Rattle.propagate.specs.declared.watch_lists.Watch.{Watch}
 use Rattle.propagate.specs.declared.pairs.Pair.{Pair}
-use Rattle.propagate.proofs.Places.{get_set_same}
+use Rattle.clause_base.proofs.ListLemmas.{get_set_same}
 use Rattle.propagate.proofs.Listed.{list_at_same}
 use Rattle.propagate.proofs.Steps.{step_none, step_implied}
 

@@ -22,7 +22,8 @@ use Rattle.propagate.specs.declared.pairs.Pair.{Pair}
 use Rattle.propagate.proofs.Extending.{level_extends, filter_above}
 use Rattle.propagate.proofs.Forcing.{get_split, get_front}
 use Rattle.propagate.proofs.SettledLevels.{up_to-back}
-use Rattle.propagate.proofs.Values.{value_push_cases, value_one_false, value_seen, value_unseen, take_there, up_to_append, satisfied_append}
+use Rattle.clause_base.proofs.ListLemmas.{take_there}
+use Rattle.propagate.proofs.Values.{value_push_cases, value_one_false, value_seen, value_unseen, up_to_append, satisfied_append}
 
 -- where entries are added a literal stays guarded
 pub guarded_append : (seen es more : List Entry) (clause : List ℤ) (z : ℤ) → IsGuarded seen es clause z

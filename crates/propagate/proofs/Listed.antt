@@ -11,7 +11,8 @@ use Rattle.propagate.specs.Watching.{code_of, IsIn, IsListed, IsEntry, AreLaid}
 use Rattle.propagate.specs.declared.watch_lists.Watch.{Watch}
 use Rattle.propagate.specs.declared.pairs.Pair.{Pair}
 use Rattle.propagate.proofs.Forcing.{get_left, get_split}
-use Rattle.propagate.proofs.Places.{get_set_same, get_set_other, get_set_cases, get_last, get_left_there, get_kept}
+use Rattle.clause_base.proofs.ListLemmas.{get_set_same, get_set_other, get_set_cases}
+use Rattle.propagate.proofs.Places.{get_last, get_left_there, get_kept}
 
 -- the changed list
 pub list_at_same : (lists : List (List Watch)) (code : ℕ) (xs : List Watch) → code < length lists → list_at (set lists code xs) code ≡ xs

@@ -18,7 +18,8 @@ use Rattle.propagate.specs.declared.watch_lists.Watch.{Watch}
 use Rattle.propagate.specs.declared.pairs.Pair.{Pair}
 use Rattle.propagate.proofs.Extending.{Extends_none, Extends_push, Extends_trans}
 use Rattle.propagate.proofs.Forcing.{AreForced_push}
-use Rattle.propagate.proofs.Places.{get_set_same, get_set_other, get_set_cases, get_swapped, length_swapped}
+use Rattle.clause_base.proofs.ListLemmas.{get_set_same, get_set_other, get_set_cases}
+use Rattle.propagate.proofs.Places.{get_swapped, length_swapped}
 use Rattle.propagate.proofs.Listed.{list_at_same, list_at_other, listed_push, listed_here, listed_set, listed_removed, laid_push, laid_set, laid_removed, laid_pair, code_apart}
 use Rattle.propagate.proofs.Guarding.{are_guarded_append, are_guarded_lists, guarded_watchable}
 use Rattle.propagate.proofs.Values.{satisfied_append, value_append}

@@ -1,19 +1,21 @@
 -- The truth values of literals, where entries are added or left out.
 
-use Rattle.std.proofs.Common.{get_or, length, ◌≡◌, ◌≢◌, ℕ, zero, suc, ℤ, pos, negsuc, ◌+◌, ◌<◌, Bool, true, false, cond, not, ◌==◌, List, [], ◌∷◌, ◌++◌, take, drop, filter, Option, Some, None, refl, sym, ap, subst, ◌∙◌, inl, inr, ◌⊎◌, arith}
+use Rattle.std.proofs.Common.{get_or, length, ◌≡◌, ◌≢◌, ℕ, suc, ℤ, ◌+◌, ◌<◌, Bool, true, false, cond, not, ◌==◌, List, [], ◌∷◌, ◌++◌, take, drop, filter, Option, Some, None, refl, sym, ap, subst, ◌∙◌, inl, inr, ◌⊎◌, arith}
 use Rattle.std.specs.Prelude.{nat_le, slice_get, neg_ℤ, AllPairs}
 use Rattle.std.specs.Bool.{if◌then◌else◌}
 use mathlib.Core.Bool.{beq}
 use Rattle.std.specs.Option.{option_map, option_or, option_eq}
-use Rattle.std.proofs.lemmas.Bool.{eqb-true, eq-eqb, ne_eqb, true≢false}
+use Rattle.std.proofs.lemmas.Bool.{eqb-true, eq-eqb, ne_eqb}
 use Rattle.std.proofs.lemmas.Bool.Decides.{Decides-int_eq}
 use Rattle.std.specs.Ordering.{int_eq}
-use Rattle.std.proofs.lemmas.List.{take-append-drop, take_more}
+use Rattle.std.proofs.lemmas.List.{take-append-drop}
 use Rattle.std.proofs.lemmas.List.Elements.{filter-append}
-use Rattle.std.proofs.lemmas.Option.{slice_get_within, get_or_from_slice_get, none-some}
+use Rattle.std.proofs.lemmas.Option.{none-some}
 use Rattle.clause_base.specs.Lit.{var_of, is_positive}
 use Rattle.clause_base.specs.Truth.{lits_of, IsSatisfied}
 use Rattle.clause_base.specs.declared.entry.Entry.{Entry}
+use Rattle.clause_base.proofs.ListLemmas.{take_there}
+use Rattle.clause_base.proofs.LiteralLemmas.{var_neg, positive_neg, same_literal, value_of_sign}
 use Rattle.trail.specs.Assignment.{value_of, sign_of, Follows, IsTrail, IsLevelled}
 use Rattle.trail.proofs.Levels.{IsTrail-levelled}
 use Rattle.trail.proofs.Signs.{given_by, sign-push, sign-unassigned}
@@ -31,7 +33,7 @@ sign_append v (e ∷ es) more s h = by (var_of e.lit == v) (sign_append v es mor
     by false rest h = rest h
 
 -- no sign is in what is left where entries are left out
-sign_filter : (p : Entry → Bool) (v : ℕ) (es : List Entry) → sign_of v es ≡ None → sign_of v (filter p es) ≡ None
+pub sign_filter : (p : Entry → Bool) (v : ℕ) (es : List Entry) → sign_of v es ≡ None → sign_of v (filter p es) ≡ None
 sign_filter p v [] h = refl
 sign_filter p v (e ∷ es) h = by (p e) (var_of e.lit == v) refl h (sign_filter p v es)
   where
@@ -50,19 +52,9 @@ sign_take v h es none = by (sign_of v (take h es)) refl
     by (Some s) e =
         let some : sign_of v es ≡ Some s = ap (sign_of v) (sym (take-append-drop h es)) ∙ sign_append v (take h es) (drop h es) s e in cc
 
--- the value of a literal from the sign of its variable
-value_of_sign : (z : ℤ) (xs ys : List Entry) → ((s : Bool) → sign_of (var_of z) xs ≡ Some s → sign_of (var_of z) ys ≡ Some s)
-    → (t : Bool) → value_of z xs ≡ Some t → value_of z ys ≡ Some t
-value_of_sign z xs ys h t v = by (sign_of (var_of z) xs) refl v
-  where
-    by : (o : Option Bool) → sign_of (var_of z) xs ≡ o → option_map (λ s. if is_positive z then s else not s) o ≡ Some t
-        → value_of z ys ≡ Some t
-    by None e v = cc
-    by (Some s) e v = ap (option_map (λ s. if is_positive z then s else not s)) (h s e) ∙ v
-
 -- a value stays where entries are added
 pub value_append : (z : ℤ) (es more : List Entry) (b : Bool) → value_of z es ≡ Some b → value_of z (es ++ more) ≡ Some b
-value_append z es more b h = value_of_sign z es (es ++ more) (λ s. sign_append (var_of z) es more s) b h
+value_append z es more b h = value_of_sign z (lits_of es) (lits_of (es ++ more)) (λ s. sign_append (var_of z) es more s) b h
 
 -- a literal that is unassigned was so at the end of each level, and among the entries seen
 pub value_unseen : (z : ℤ) (es : List Entry) (l h : ℕ) → value_of z es ≡ None → value_of z (up_to l (take h es)) ≡ None
@@ -81,25 +73,6 @@ value_push_cases z xs p b h = by (sign_of (var_of z) xs) refl
         inr (ap (option_map (λ s. if is_positive z then s else not s))
         (sym (sign-push (var_of z) xs p ∙ ap (λ o. option_or o (given_by (var_of z) p)) e)) ∙ h)
     by (Some s) e = inl (ap (option_map (λ s. if is_positive z then s else not s)) (e ∙ sym (sign_append (var_of z) xs (p ∷ []) s e)) ∙ h)
-
--- a literal is told by its variable and its sign
-same_literal : (y z : ℤ) → var_of y ≡ var_of z → is_positive y ≡ is_positive z → y ≡ z
-same_literal (pos m) (pos n) v s = ap pos v
-same_literal (pos m) (negsuc n) v s = cc
-same_literal (negsuc m) (pos n) v s = cc
-same_literal (negsuc m) (negsuc n) v s = let e : m ≡ n = omega arith in ap negsuc e
-
--- the negation has the variable
-pub var_neg : (z : ℤ) → var_of (neg_ℤ z) ≡ var_of z
-var_neg (pos zero) = refl
-var_neg (pos (suc n)) = refl
-var_neg (negsuc n) = refl
-
--- and the other sign
-positive_neg : (z : ℤ) → 0 < var_of z → is_positive (neg_ℤ z) ≡ not (is_positive z)
-positive_neg (pos zero) lt = absurd (omega arith)
-positive_neg (pos (suc n)) lt = refl
-positive_neg (negsuc n) lt = refl
 
 -- an entry makes just the negation of its literal false
 pub value_one_false : (z : ℤ) (p : Entry) → 0 < var_of p.lit → value_of z (p ∷ []) ≡ Some false → z ≡ neg_ℤ p.lit
@@ -120,11 +93,6 @@ value_one_false z p above h = by (var_of p.lit == var_of z) refl h
         ∙ sym (positive_neg p.lit above) in
         same_literal z (neg_ℤ p.lit) vars signs
     by false t h = cc
-
--- one more of a list
-pub take_there : {X : Type 0} (xs : List X) (i : ℕ) (x : X) → slice_get xs i ≡ Some x → take (i + 1) xs ≡ take i xs ++ x ∷ []
-take_there xs i x there =
-    take_more xs i x (slice_get_within xs i x there) ∙ ap (λ y. take i xs ++ y ∷ []) (get_or_from_slice_get xs i x x there)
 
 -- the negation of an entry's literal is false
 pub false_there : (vars : ℕ) (es : List Entry) (h : ℕ) (p : Entry) → IsTrail vars es → slice_get es h ≡ Some p
@@ -166,9 +134,6 @@ satisfied_append es more clause s =
 -- what the test of two literals tells
 pub same_lits : (x y : ℤ) → int_eq x y ≡ true → x ≡ y
 same_lits x y h = (Decides-int_eq x y).0 h
-
-pub other_lits : (x y : ℤ) → int_eq x y ≡ false → x ≢ y
-other_lits x y h same = true≢false (sym ((Decides-int_eq x y).1 same) ∙ h)
 
 -- what the test for a true value tells
 pub told_true : (o : Option Bool) → option_eq beq o (Some true) ≡ true → o ≡ Some true
@@ -216,7 +181,7 @@ value_seen vars es l h z b t e =
     let later : value_of z (up_to l es) ≡ Some b =
     ap (value_of z) split ∙ value_append z (up_to l (take h es)) (up_to l (drop h es)) b e in
     let levelled : IsLevelled es = IsTrail-levelled vars es t in
-    value_of_sign z (up_to l es) es (λ s. sign_of_filter (λ x. nat_le x.level l) (var_of z) es s levelled.apart) b later
+    value_of_sign z (lits_of (up_to l es)) (lits_of es) (λ s. sign_of_filter (λ x. nat_le x.level l) (var_of z) es s levelled.apart) b later
 
 -- what the test for a true value tells where it fails
 pub told_not_true : (o : Option Bool) → option_eq beq o (Some true) ≡ false → o ≢ Some true

@@ -8,8 +8,8 @@ use Rattle.std.proofs.lemmas.List.Sums.{prefix_len_passes}
 use Rattle.clause_base.specs.Clauses.{Clauses}
 use Rattle.clause_base.specs.declared.line.Line.{Line}
 use Rattle.clause_base.specs.Refutation.{Derived}
-use Rattle.placement_clauses.specs.Truth.{clause_holds, AllHold}
-use Rattle.clause_encode.proofs.DerivedLemmas.{derived_holds}
+use Rattle.clause_base.specs.TruthValues.{clause_holds, AllHold}
+use Rattle.clause_base.proofs.DerivedLemmas.{derived_holds}
 use Rattle.ref_text.specs.Form.{form}
 use Rattle.ref_text.specs.Fault.{text_fault, line_of, is_empty}
 use Rattle.ref_text.specs.Reading.{lf_at}

@@ -2,7 +2,7 @@
 use Rattle.std.proofs.Common.{◌≡◌, ◌≢◌, ℕ, zero, suc, ℤ, ◌+◌, ◌-◌, ◌<◌, ◌≤◌, inl, inr, List, [], ◌∷◌, ◌++◌, length, map, take, get_or, set, Option, Some, None, refl, sym, ap, subst, ◌∙◌, arith}
 use Rattle.std.specs.Prelude.{slice_get, slice_set, slice_index, All}
 use Rattle.std.proofs.lemmas.Bool.{cases_eq}
-use Rattle.placement_clauses.proofs.UptoLemmas.{All-append_left, All-append_right}
+use Rattle.clause_base.proofs.ListLemmas.{All-append_left, All-append_right}
 use Rattle.ref_text.specs.declared.why.Why.{Why}
 use Rattle.refute_check.specs.Hints.{look_on, clause_at, held_with, held_by, held_after, judged_last, judged}
 use Rattle.refute_check.specs.Known.{or_nothing, kept_at}

@@ -7,7 +7,7 @@ ghost use Rattle.io_base.specs.Loading.{TookMore};
 ghost use Rattle.mcu_jumps.specs.Position.{Position};
 ghost use Rattle.flow_graph.specs.Graph.{graph_of};
 ghost use Rattle.place_model.specs.Legal.{IsLegal};
-ghost use Rattle.placement_clauses.specs.Truth.{AllHold};
+ghost use Rattle.clause_base.specs.TruthValues.{AllHold};
 ghost use Rattle.clause_encode.specs.PlacementList.{list_of};
 ghost use Rattle.refute_check.specs.Judging.{spot_of, at_start, Stands};
 ghost use Rattle.refute_check.specs.Taken.{AsksWithin, Explains, IsOfBytes, decided, lines_up_to};

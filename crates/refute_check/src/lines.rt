@@ -1,7 +1,7 @@
 //! Judges the lines of a text, one after another.
 
 ghost use Rattle.std.specs.Prelude.{ℕ, ◌≡◌, ◌<◌, ◌-◌, ◌^◌, Bool, length, IfOk};
-ghost use Rattle.placement_clauses.specs.Truth.{AllHold};
+ghost use Rattle.clause_base.specs.TruthValues.{AllHold};
 ghost use Rattle.refute_check.specs.Check.{check};
 ghost use Rattle.refute_check.specs.declared.checked.Checked.TheVariants as checked;
 

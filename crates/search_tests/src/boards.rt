@@ -116,3 +116,23 @@ fn clause_of_no_literal(rt: HostRuntime) -> Result<(), Fail> {
     assert!(rt; settled_after_nothing(&mut board)? == Settled::Conflict(4));
     Ok(())
 }
+
+// Settles a board. Where it finds no memory, what it implied so far stands, and it goes on from there.
+fn settle_on(board: &mut Board) -> Result<Settled, Fail> {
+    if let Ok(settled) = board.settle() {
+        return Ok(settled);
+    }
+    Ok(board.settle()?)
+}
+
+/// Clauses that imply four literals. The first watches another literal once 1 is true.
+const CHAIN: &[&[i32]] = &[&[-1, 2, 3], &[1], &[-2], &[-3, 4]];
+
+// With ample memory the board settles at once. Where an allocation fails in its first call, the second ends alike.
+#[test]
+fn settling_goes_on_after_want_of_memory(rt: HostRuntime) -> Result<(), Fail> {
+    let mut board = board_of(rt, CHAIN)?;
+    assert!(rt; settle_on(&mut board)? == Settled::Done);
+    assert!(rt; stands_at(&board, 0, 4));
+    Ok(())
+}

@@ -2,11 +2,11 @@
 use crate::lists::is_clause;
 use crate::model_tables::placed;
 use crate::programs::{ONE_INSTRUCTION, ONE_LABEL_TWICE, program_of};
+use clause_base::Truths;
 use clause_encode::{clause_at, clause_count, encode, var_count};
 use flow_graph::Program;
 use io_base::OutOfMemory;
 use mcu_jumps::Cell;
-use placement_clauses::Truths;
 use std::alloc::Global;
 use std::test::Fail;
 

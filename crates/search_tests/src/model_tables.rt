@@ -2,13 +2,12 @@
 ghost use Rattle.std.specs.Prelude.{◌≡◌, ◌≤◌, All, IsTrue, length};
 ghost use Rattle.std.specs.List.{list_any};
 ghost use Rattle.clause_base.specs.Lit.{var_of};
-ghost use Rattle.placement_clauses.specs.Truth.{lit_holds, AllHold, truth_in};
+ghost use Rattle.clause_base.specs.TruthValues.{lit_holds, AllHold, truth_in};
 
-use clause_base::{ClauseList, Lit};
+use clause_base::{ClauseList, Lit, Truths};
 use clause_encode::{encode, place_of};
 use flow_graph::Program;
 use place_model::Placement;
-use placement_clauses::Truths;
 use std::alloc::Global;
 use std::test::Fail;
 

@@ -9,6 +9,8 @@ use crate::lists::{are_literals, list_of, literal};
 use crate::programs::{ONE_INSTRUCTION, ONE_LABEL_TWICE, program_of};
 use clause_base::ClauseList;
 use clause_encode::clause_count;
+use gen_case::make_case;
+use place_model::legal;
 use placer::{Learnt, Placed, Verdict, analyse, place, search};
 use propagate::{Board, Settled};
 use std::alloc::Global;
@@ -212,4 +214,28 @@ fn small_sources(rt: HostRuntime) {
             "budget {budget}"
         );
     }
+}
+
+// Whether a small budget finds a placement of a small source, and it is legal.
+fn is_placed(alloc: Global, source: &[u8], budget: u64) -> bool {
+    let Some(program) = program_of(alloc, source) else {
+        return false;
+    };
+    if clause_count(&program) >= 1_000_000 || budget >= 1_000_000 {
+        return false;
+    }
+    match place(alloc, &program, budget) {
+        Ok(Placed::Found(placement)) => {
+            placement.as_slice().len() == program.len() as usize && legal(&program, &placement)
+        }
+        _ => false,
+    }
+}
+
+// The source of number 0 has 128 labels, 112 of them pinned.
+#[test]
+fn many_labels_are_placed(rt: HostRuntime) -> Result<(), Fail> {
+    let case = make_case(rt.alloc(), 0)?;
+    assert!(rt; is_placed(rt.alloc(), &case.source, 100));
+    Ok(())
 }

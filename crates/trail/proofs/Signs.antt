@@ -1,11 +1,12 @@
 -- The sign that a variable has in the entries.
 
 use Rattle.std.proofs.Common.{◌≡◌, ◌≢◌, ℕ, zero, suc, ℤ, ◌<◌, ◌≤◌, Bool, true, false, not, ◌==◌, List, [], ◌∷◌, ◌++◌, length, get_or, Option, Some, None, sum_by, refl, arith}
-use Rattle.std.proofs.lemmas.Bool.Decides.{nat_tests}
 use Rattle.std.proofs.lemmas.List.Sums.{sum_by-cons}
 use Rattle.std.specs.Bool.{if◌then◌else◌}
 use Rattle.std.specs.Option.{option_map, option_or}
 use Rattle.clause_base.specs.Lit.{var_of, is_positive}
+use Rattle.clause_base.specs.Truth.{lits_of}
+use Rattle.clause_base.proofs.LiteralLemmas.{sign_none_first}
 use Rattle.clause_base.specs.declared.entry.Entry.{Entry}
 use Rattle.trail.specs.Assignment.{sign_of, value_of}
 use Rattle.trail.specs.Kept.{count_of}
@@ -38,20 +39,11 @@ pub option_or-None : (o : Option Bool) → option_or o None ≡ o
 option_or-None None = refl
 option_or-None (Some s) = refl
 
--- a variable with no sign is neither that of the first entry nor has a sign in the others
-sign-cons : (v : ℕ) (x : Entry) (xs : List Entry) → sign_of v (x ∷ xs) ≡ None → (var_of x.lit ≢ v) × (sign_of v xs ≡ None)
-sign-cons v x xs h = by (var_of x.lit == v) refl h
-  where
-    by : (b : Bool) → (var_of x.lit == v) ≡ b → (if b then Some (is_positive x.lit) else sign_of v xs) ≡ None
-        → (var_of x.lit ≢ v) × (sign_of v xs ≡ None)
-    by true test h = cc
-    by false test h = (λ same. grind (arith, nat_tests), h)
-
 -- a variable with no sign is that of no entry
 pub sign-absent : (v : ℕ) (es : List Entry) (i : ℕ) (d : Entry) → i < length es → sign_of v es ≡ None → var_of (get_or es i d).lit ≢ v
 sign-absent v [] i d lt h = absurd (omega arith)
-sign-absent v (x ∷ xs) zero d lt h = (sign-cons v x xs h).0
-sign-absent v (x ∷ xs) (suc i) d lt h = sign-absent v xs i d (omega arith) (sign-cons v x xs h).1
+sign-absent v (x ∷ xs) zero d lt h = (sign_none_first v x.lit (lits_of xs) h).0
+sign-absent v (x ∷ xs) (suc i) d lt h = sign-absent v xs i d (omega arith) (sign_none_first v x.lit (lits_of xs) h).1
 
 -- there are at most as many signs as places
 pub count-le : (os : List (Option Bool)) → sum_by count_of os ≤ length os

@@ -70,7 +70,8 @@ impl Trail {
         requires in_range { var_of lit ≤ self.old.vars }
         requires unassigned { value_of lit self.old.entries ≡ None }
         requires implied { 0 < reason }
-        ensures { let implied : Entry = record { lit = lit; level = level_of self.old.entries; reason = reason } in self.new ≡ record { vars = self.old.vars; entries = self.old.entries ++ implied ∷ [] } }
+        ensures trail { let implied : Entry = record { lit = lit; level = level_of self.old.entries; reason = reason } in self.new ≡ record { vars = self.old.vars; entries = self.old.entries ++ implied ∷ [] } }
+        ensures ordered { IsTrail self.new.vars self.new.entries }
     {
         let level = self.level;
         self.signs[lit.var() as usize] = Some(lit.is_positive());
@@ -105,6 +106,7 @@ impl Trail {
     pub fn level(&self) -> u32
         ensures level { result ≡ level_of self.now.entries }
         ensures levelled { IsLevelled self.now.entries }
+        ensures ordered { IsTrail self.now.vars self.now.entries }
     {
         self.level
     }

@@ -3,7 +3,7 @@ use Rattle.std.specs.Prelude.{slice_get}
 use Rattle.std.proofs.lemmas.List.{length_push}
 use Rattle.mcu_jumps.specs.Position.{Position}
 use Rattle.flow_graph.specs.Graph.{graph_of}
-use Rattle.placement_clauses.specs.Truth.{AllHold, truth_in}
+use Rattle.clause_base.specs.TruthValues.{AllHold, truth_in}
 use Rattle.placement_clauses.specs.Shape.{one, any_of}
 use Rattle.placement_clauses.specs.PinCells.{HavePinCells}
 use Rattle.placement_clauses.proofs.DecodeLemmas.{IsReadCell, cell_class-rows, read-from, read-more, legal-from, true-cells}

@@ -1,7 +1,7 @@
 use Rattle.std.proofs.Common.{◌≡◌, ℕ, length, Some}
 use Rattle.std.specs.Prelude.{slice_get}
 use Rattle.mcu_jumps.specs.Position.{Position}
-use Rattle.placement_clauses.specs.Truth.{truth_in}
+use Rattle.clause_base.specs.TruthValues.{truth_in}
 use Rattle.placement_clauses.proofs.DecodeLemmas.{IsReadCell}
 use Rattle.clause_encode.proofs.decoding.read_cells.Given as goal
 

@@ -2,7 +2,7 @@ use Rattle.std.proofs.Common.{◌≡◌, ◌≤◌, ◌∙◌, ap, sym, subst, [
 use Rattle.clause_base.specs.Clauses.{Clauses}
 use Rattle.flow_graph.specs.Graph.{graph_of}
 use Rattle.placement_clauses.specs.Upto.{upto}
-use Rattle.placement_clauses.specs.Truth.{AllHold, truth_in}
+use Rattle.clause_base.specs.TruthValues.{AllHold, truth_in}
 use Rattle.placement_clauses.specs.Number.{var_count_of}
 use Rattle.placement_clauses.specs.Clauses.{clauses_of}
 use Rattle.placement_clauses.specs.Meaning.{meaning}

@@ -22,13 +22,11 @@ above_from es l m d at above i e le there = ⊎_elim
 pub halving-preserved : goal.halving-preserved
 halving-preserved c =
     let es = c.args.board.now.trail.entries in
-    let read = c.trail-trail.result.now in
     let value = c.trail-trail.ensures.trail in
     let low = c.halving.low in
     let high = c.halving.high in
     let middle = low + (high - low) / 2 in
-    let l : IsLevelled es = subst (λ (a : Assignment). IsLevelled a.entries) value
-    (IsTrail-levelled read.vars read.entries c.len-ordered.ensures.ordered) in
+    let l : IsLevelled es = IsTrail-levelled c.args.board.now.list.vars es c.trail-trail.ensures.ordered in
     let there : slice_get es middle ≡ Some c.entry-entry.result =
     ap (λ (a : Assignment). slice_get a.entries middle) (sym value) ∙ c.entry-entry.ensures in
     let no : c.entry-entry.result.level ≢ 0 = c.if-entry-eq0.false in

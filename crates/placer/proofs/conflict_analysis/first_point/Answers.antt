@@ -7,13 +7,13 @@ use Rattle.trail.proofs.Levels.{level-le}
 use Rattle.placer.specs.Marking.{IsWithin, Lowers, IsAtPlace}
 use Rattle.placer.proofs.Resolving.{within_false}
 use Rattle.placer.proofs.Starting.{at_last}
-use Rattle.placer.proofs.BoardParts.{ordered, same_clause}
+use Rattle.placer.proofs.BoardParts.{same_clause}
 use Rattle.placer.proofs.conflict_analysis.first_point.Goals as goal
 
 pub mark_clause-requires : goal.mark_clause-requires
 mark_clause-requires c =
     let b = c.args.board.now in
-    let t = ordered b c.trail-trail.result.now c.trail-trail.ensures.trail c.trail-trail.ensures.sound c.len-len.ensures.ordered in
+    let t = c.trail-trail.ensures.ordered in
     let is = same_clause b.list c.list.result.now c.args.conflict c.requires.conflict.clause c.get-clause.result.now c.list.ensures.list
     c.requires.conflict.numbered c.get-clause.ensures.clause in
     let f : IsFalse (lits_of b.trail.entries) c.get-clause.result.now =
@@ -30,7 +30,7 @@ mark_clause-requires c =
 pub lowest_of-lowest-requires : goal.lowest_of-lowest-requires
 lowest_of-lowest-requires c =
     let b = c.args.board.now in
-    let t = ordered b c.trail-trail.result.now c.trail-trail.ensures.trail c.trail-trail.ensures.sound c.len-len.ensures.ordered in
+    let t = c.trail-trail.ensures.ordered in
     let is = same_clause b.list c.list.result.now c.args.conflict c.requires.conflict.clause c.get-clause.result.now c.list.ensures.list
     c.requires.conflict.numbered c.get-clause.ensures.clause in
     let f : IsFalse (lits_of b.trail.entries) c.get-clause.result.now =
@@ -45,7 +45,7 @@ pub back-init : goal.back-init
 back-init c =
     let b = c.args.board.now in
     let es = b.trail.entries in
-    let t = ordered b c.trail-trail.result.now c.trail-trail.ensures.trail c.trail-trail.ensures.sound c.len-len.ensures.ordered in
+    let t = c.trail-trail.ensures.ordered in
     let is = same_clause b.list c.list.result.now c.args.conflict c.requires.conflict.clause c.get-clause.result.now c.list.ensures.list
     c.requires.conflict.numbered c.get-clause.ensures.clause in
     let f : IsFalse (lits_of es) c.get-clause.result.now =

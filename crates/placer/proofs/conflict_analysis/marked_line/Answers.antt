@@ -3,7 +3,7 @@ use Rattle.std.specs.Prelude.{◌&&◌, neg_ℤ}
 use Rattle.std.specs.Bool.{if◌then◌else◌}
 use Rattle.trail.specs.Assignment.{Assignment, IsTrail}
 use Rattle.placer.specs.Marking.{ArePlaces, is_used, is_kept, negation_if, reason_if}
-use Rattle.placer.proofs.Fronts.{flat_map-there}
+use Rattle.clause_base.proofs.ListLemmas.{flat_map_there}
 use Rattle.placer.proofs.Flags.{kept_is, used_is}
 use Rattle.placer.proofs.conflict_analysis.marked_line.Goals as goal
 
@@ -27,11 +27,11 @@ loop-index-preserved c =
           ∙ ap (λ b. c.loop-index.clause.items ++ (if b then neg_ℤ e.lit ∷ [] else []))
           (sym (kept_is c.trail-trail.result.now.vars es places marks point i e t p c.entry-entry.ensures))
           ∙ ap (λ l. l ++ negation_if (is_kept es places marks point) e) c.loop-index.invariant.clause
-          ∙ sym (flat_map-there (negation_if (is_kept es places marks point)) es i e c.entry-entry.ensures);
+          ∙ sym (flat_map_there (negation_if (is_kept es places marks point)) es i e c.entry-entry.ensures);
       hints = c.in_ok-add_where.ensures.hints
           ∙ ap (λ r. c.loop-index.hints.items ++ (if get_or marks i false && r then e.reason ∷ [] else [])) c.resolves-resolved.ensures
           ∙ ap (λ b. c.loop-index.hints.items ++ (if b then e.reason ∷ [] else []))
           (sym (used_is c.trail-trail.result.now.vars es places marks point i e t p c.entry-entry.ensures))
           ∙ ap (λ l. l ++ reason_if (is_used es places marks point) e) c.loop-index.invariant.hints
-          ∙ sym (flat_map-there (reason_if (is_used es places marks point)) es i e c.entry-entry.ensures);
+          ∙ sym (flat_map_there (reason_if (is_used es places marks point)) es i e c.entry-entry.ensures);
     }

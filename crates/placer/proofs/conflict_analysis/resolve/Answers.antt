@@ -5,6 +5,7 @@ use Rattle.std.proofs.lemmas.Option.{slice_get-get_or, get_or_from_slice_get}
 use Rattle.clause_base.specs.Clauses.{Clauses}
 use Rattle.clause_base.specs.declared.entry.Entry.{Entry}
 use Rattle.trail.specs.Assignment.{Assignment, IsTrail, IsLevelled, level_of}
+use Rattle.trail.proofs.Levels.{IsTrail-levelled}
 use Rattle.propagate.specs.Standing.{Standing, IsSound}
 use Rattle.placer.specs.Marking.{IsWithin, ArePlaces, Lowers, IsLowest}
 use Rattle.placer.proofs.Resolving.{within_reason, reason_after, reason_number, past_unmarked, past_marked}
@@ -19,20 +20,18 @@ record IsResolved (b : Standing) (place : ℕ) (marks : List Bool) (d : Entry) :
   pub implied : 0 < d.reason
 
 resolved : (b : Standing) (read : Assignment) (places : List ℕ) (place lowest : ℕ) (marks : List Bool) (d : Entry) → read ≡ b.trail
-    → IsSound b → IsTrail read.vars read.entries → IsLevelled read.entries → ArePlaces b.list.vars b.trail.entries places
+    → IsSound b → IsTrail b.list.vars b.trail.entries → ArePlaces b.list.vars b.trail.entries places
     → place < length b.trail.entries → length b.trail.entries ≤ length marks → IsLowest b.trail.entries marks lowest → lowest < place
     → 0 < level_of b.trail.entries → slice_get read.entries place ≡ Some d → get_or marks place false ≡ true → IsResolved b place marks d
-resolved b read places place lowest marks d value sound t levelled p within room k lt above there on =
+resolved b read places place lowest marks d value sound t p within room k lt above there on =
     let es = b.trail.entries in
-    let u : IsTrail b.list.vars b.trail.entries =
-    subst (λ (v : ℕ). IsTrail v b.trail.entries) sound.same_vars (subst (λ (a : Assignment). IsTrail a.vars a.entries) value t) in
-    let l : IsLevelled b.trail.entries = subst (λ (a : Assignment). IsLevelled a.entries) value levelled in
+    let l : IsLevelled b.trail.entries = IsTrail-levelled b.list.vars b.trail.entries t in
     let at : slice_get b.trail.entries place ≡ Some d = ap (λ (a : Assignment). slice_get a.entries place) (sym value) ∙ there in
     record {
-      ordered = u;
+      ordered = t;
       at = at;
       own = slice_get-get_or marks place false (omega arith) ∙ ap Some on;
-      implied = reason_after b.list.vars b.list.clauses es places u sound.forced p l lowest place marks d k lt at above;
+      implied = reason_after b.list.vars b.list.clauses es places t sound.forced p l lowest place marks d k lt at above;
     }
 
 pub returns-then-not-marks-place-clause-at : goal.returns-then-not-marks-place-clause-at
@@ -46,7 +45,7 @@ pub get-reason-requires : goal.get-reason-requires
 get-reason-requires c =
     let b = c.args.board.now in
     let r = resolved b c.trail-trail.result.now c.args.places.now c.args.place c.args.lowest c.args.marks.now c.entry.result
-    c.trail-trail.ensures.trail c.trail-trail.ensures.sound c.len-ordered.ensures.ordered c.level-level.ensures.levelled
+    c.trail-trail.ensures.trail c.trail-trail.ensures.sound c.trail-trail.ensures.ordered
     c.requires.places c.requires.within c.requires.room c.requires.lowest c.requires.above c.requires.level c.entry.ensures
     c.if-not-marks-place.false in (
       r.implied,
@@ -59,7 +58,7 @@ pub mark_clause-requires : goal.mark_clause-requires
 mark_clause-requires c =
     let b = c.args.board.now in
     let r = resolved b c.trail-trail.result.now c.args.places.now c.args.place c.args.lowest c.args.marks.now c.entry.result
-    c.trail-trail.ensures.trail c.trail-trail.ensures.sound c.len-ordered.ensures.ordered c.level-level.ensures.levelled
+    c.trail-trail.ensures.trail c.trail-trail.ensures.sound c.trail-trail.ensures.ordered
     c.requires.places c.requires.within c.requires.room c.requires.lowest c.requires.above c.requires.level c.entry.ensures
     c.if-not-marks-place.false in
     within_reason b.list.vars b.list.clauses b.trail.entries c.args.places.now r.ordered c.trail-trail.ensures.sound.forced
@@ -71,7 +70,7 @@ pub lowest_of-requires : goal.lowest_of-requires
 lowest_of-requires c =
     let b = c.args.board.now in
     let r = resolved b c.trail-trail.result.now c.args.places.now c.args.place c.args.lowest c.args.marks.now c.entry.result
-    c.trail-trail.ensures.trail c.trail-trail.ensures.sound c.len-ordered.ensures.ordered c.level-level.ensures.levelled
+    c.trail-trail.ensures.trail c.trail-trail.ensures.sound c.trail-trail.ensures.ordered
     c.requires.places c.requires.within c.requires.room c.requires.lowest c.requires.above c.requires.level c.entry.ensures
     c.if-not-marks-place.false in
     let le : length b.trail.entries ≤ length b.trail.entries = omega arith in
@@ -86,7 +85,7 @@ pub returns-clause-at : goal.returns-clause-at
 returns-clause-at c = λ n k.
     let b = c.args.board.now in
     let r = resolved b c.trail-trail.result.now c.args.places.now c.args.place c.args.lowest c.args.marks.now c.entry.result
-    c.trail-trail.ensures.trail c.trail-trail.ensures.sound c.len-ordered.ensures.ordered c.level-level.ensures.levelled
+    c.trail-trail.ensures.trail c.trail-trail.ensures.sound c.trail-trail.ensures.ordered
     c.requires.places c.requires.within c.requires.room c.requires.lowest c.requires.above c.requires.level c.entry.ensures
     c.if-not-marks-place.false in
     let level : c.level-level.result ≡ level_of b.trail.entries = c.level-level.ensures.level

@@ -1,7 +1,5 @@
-use Rattle.std.proofs.Common.{subst}
-use Rattle.std.specs.Prelude.{All}
-use Rattle.clause_base.specs.Clauses.{Clauses, IsClause}
-use Rattle.trail.specs.Assignment.{Assignment, IsTrail}
+use Rattle.std.proofs.Common.{ℕ, sym, subst}
+use Rattle.trail.specs.Assignment.{IsTrail}
 use Rattle.placer.proofs.NewLine.{IsNew-asserts, Asserts_full}
 use Rattle.placer.proofs.learning.analyse_in.Goals as goal
 
@@ -15,7 +13,5 @@ returns-clause-new c =
     let b = c.args.board.now in
     let learnt = c.in_ok-learnt.learnt in
     let t : IsTrail b.trail.vars b.trail.entries =
-    subst (λ (a : Assignment). IsTrail a.vars a.entries) c.trail.ensures.trail c.len-ordered.ensures.ordered in
-    let valid : All (IsClause b.list.vars) b.list.clauses =
-    subst (λ (x : Clauses). All (IsClause x.vars) x.clauses) c.list.ensures.list c.vars-vars.ensures.valid in
-    IsNew-asserts b learnt.line.clause learnt.back t c.trail.ensures.sound valid c.in_ok-learnt.ensures.asserts
+    subst (λ (v : ℕ). IsTrail v b.trail.entries) (sym c.trail-trail.ensures.sound.same_vars) c.trail-trail.ensures.ordered in
+    IsNew-asserts b learnt.line.clause learnt.back t c.trail-trail.ensures.sound c.list-clauses.ensures.valid c.in_ok-learnt.ensures.asserts

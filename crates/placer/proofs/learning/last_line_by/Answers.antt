@@ -6,7 +6,7 @@ use Rattle.clause_base.specs.Refutation.{Derived}
 use Rattle.clause_base.specs.declared.line.Line.{Line}
 use Rattle.trail.specs.Assignment.{Assignment}
 use Rattle.placer.specs.Marking.{Marks, is_used, is_kept, negation_if, reason_if}
-use Rattle.placer.proofs.BoardParts.{ordered, same_clause}
+use Rattle.placer.proofs.BoardParts.{same_clause}
 use Rattle.placer.proofs.Resolving.{within_false}
 use Rattle.placer.proofs.LastLine.{empty_line, Derived_last}
 use Rattle.placer.proofs.learning.last_line_by.Goals as goal
@@ -19,7 +19,7 @@ from_both P Q R (Err e) f p q = tt
 pub mark_clause-requires : goal.mark_clause-requires
 mark_clause-requires c =
     let b = c.args.board.now in
-    let t = ordered b c.trail-trail.result.now c.trail-trail.ensures.trail c.trail-trail.ensures.sound c.len-len.ensures.ordered in
+    let t = c.trail-trail.ensures.ordered in
     let is = same_clause b.list c.list.result.now c.args.conflict c.requires.conflict.clause c.get.result.now c.list.ensures.list
     c.requires.conflict.numbered c.get.ensures.clause in
     let f : IsFalse (lits_of b.trail.entries) c.get.result.now =
@@ -40,7 +40,7 @@ returns-clause-empty c =
     let es = b.trail.entries in
     let places = c.args.places.now in
     let last = c.close_marks.new.marks in
-    let t = ordered b c.trail-trail.result.now c.trail-trail.ensures.trail c.trail-trail.ensures.sound c.len-len.ensures.ordered in
+    let t = c.trail-trail.ensures.ordered in
     let is = same_clause b.list c.list.result.now c.args.conflict c.requires.conflict.clause c.get.result.now c.list.ensures.list
     c.requires.conflict.numbered c.get.ensures.clause in
     let m : Marks places c.requires.conflict.clause c.args.marks.now c.mark_clause.new.marks =
@@ -57,7 +57,7 @@ returns-clause-derived c =
     let es = b.trail.entries in
     let places = c.args.places.now in
     let last = c.close_marks.new.marks in
-    let t = ordered b c.trail-trail.result.now c.trail-trail.ensures.trail c.trail-trail.ensures.sound c.len-len.ensures.ordered in
+    let t = c.trail-trail.ensures.ordered in
     let is = same_clause b.list c.list.result.now c.args.conflict c.requires.conflict.clause c.get.result.now c.list.ensures.list
     c.requires.conflict.numbered c.get.ensures.clause in
     let m : Marks places c.requires.conflict.clause c.args.marks.now c.mark_clause.new.marks =

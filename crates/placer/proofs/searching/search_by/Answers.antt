@@ -1,7 +1,6 @@
 use Rattle.std.proofs.Common.{◌≡◌, ◌≢◌, ◌≤◌, ◌+◌, ℕ, List, length, sym, ap, subst, ◌∙◌, arith}
-use Rattle.std.specs.Prelude.{All, IfOk}
+use Rattle.std.specs.Prelude.{IfOk}
 use Rattle.std.proofs.lemmas.List.{length_push}
-use Rattle.clause_base.specs.Clauses.{Clauses, IsClause}
 use Rattle.clause_base.specs.Truth.{lits_of, AreSettled}
 use Rattle.clause_base.specs.declared.entry.Entry.{Entry}
 use Rattle.trail.specs.Assignment.{level_of}
@@ -107,9 +106,7 @@ returns-in-None-clause-stands c =
     let b = c.settle.new.self in
     let k : HasHints c.args.list b c.turns.hints.items =
     HasHints_list c.args.list c.turns.board b c.turns.hints.items c.turns.invariant.learned c.in_ok-settled.ensures.list in
-    let valid : All (IsClause b.list.vars) b.list.clauses =
-    subst (λ (x : Clauses). All (IsClause x.vars) x.clauses) c.list.ensures.list c.vars-vars.ensures.valid in
     let done : AreSettled (lits_of b.trail.entries) b.list.clauses =
     subst (λ (s : Settled). Ends b s) c.in-Done.is c.in_ok-settled.ensures.ends in
-    IsModel-settled c.args.list b k.lines c.in_ok-truths_of-in-None.field-0 k.learned valid done c.in-None.ensures.all
+    IsModel-settled c.args.list b k.lines c.in_ok-truths_of-in-None.field-0 k.learned c.list-clauses.ensures.valid done c.in-None.ensures.all
     c.in_ok-truths_of-in-None.ensures.sized c.in_ok-truths_of-in-None.ensures.each

@@ -8,7 +8,7 @@ use Rattle.clause_base.specs.declared.entry.Entry.{Entry}
 use Rattle.trail.specs.Assignment.{Assignment, IsTrail, IsLevelled}
 use Rattle.trail.proofs.Levels.{IsTrail-levelled}
 use Rattle.propagate.specs.Standing.{Standing, IsSound}
-use Rattle.placer.proofs.ChangedPlaces.{get_set_same, get_set_other}
+use Rattle.clause_base.proofs.ListLemmas.{get_set_same, get_set_other}
 use Rattle.placer.proofs.KnownPlaces.{among_first}
 use Rattle.placer.proofs.workspace.note_places.Goals as goal
 

@@ -11,7 +11,7 @@ returns-in_err-watch_none-clause-guarded c =
     keeps_good c.args.list.now.clauses c.args.watches.now.lists c.watch_none.new.watches.lists c.args.watches.now.pairs.items
     c.watch_none.new.watches.pairs.items es es [] c.args.clause.now c.watch_none.ensures.guarded c.watch_none.ensures.lists
     (sym (append-nil es)) c.requires.there
-    (good_at_zero c.args.trail.now.vars es c.args.clause.now c.len-ordered.ensures.ordered bottom
+    (good_at_zero c.args.trail.now.vars es c.args.clause.now c.level.ensures.ordered bottom
     (record { place = c.requires.within.place; lit = c.args.lit; there = c.requires.within.there; holds = c.requires.holds }))
 
 pub returns-clause-guarded : goal.returns-clause-guarded
@@ -21,5 +21,5 @@ returns-clause-guarded c =
     keeps_good c.args.list.now.clauses c.args.watches.now.lists c.watch_none.new.watches.lists c.args.watches.now.pairs.items
     c.watch_none.new.watches.pairs.items es es [] c.args.clause.now c.watch_none.ensures.guarded c.watch_none.ensures.lists
     (sym (append-nil es)) c.requires.there
-    (good_at_zero c.args.trail.now.vars es c.args.clause.now c.len-ordered.ensures.ordered bottom
+    (good_at_zero c.args.trail.now.vars es c.args.clause.now c.level.ensures.ordered bottom
     (record { place = c.requires.within.place; lit = c.args.lit; there = c.requires.within.there; holds = c.requires.holds }))

@@ -52,7 +52,7 @@ watch_two-requires-clause-apart c same =
     let es = c.args.trail.now.entries in
     let f = r.present in
     let is_false : value_of c.args.other es ≡ Some false = ap (λ z. value_of z es) f.negates
-    ∙ false_there c.args.trail.now.vars es f.place f.entry c.len-before.ensures.ordered f.there in
+    ∙ false_there c.args.trail.now.vars es f.place f.entry c.level-level.ensures.ordered f.there in
     none-some false (sym r.unit.unassigned ∙ ap (λ z. value_of z es) same ∙ is_false)
 
 pub returns-clause-forced : goal.returns-clause-forced
@@ -60,7 +60,7 @@ returns-clause-forced c =
     let r = c.requires in
     let es = c.args.trail.now.entries in
     let e : Entry = record { lit = c.args.lit; level = level_of es; reason = c.len.result + 1 } in
-    let later : c.imply.new.self.entries ≡ es ++ e ∷ [] = ap (λ t. t.entries) c.imply.ensures in
+    let later : c.imply.new.self.entries ≡ es ++ e ∷ [] = ap (λ t. t.entries) c.imply.ensures.trail in
     let reason : e.reason ≡ length c.args.watches.now.pairs.items + 1 = omega (arith, c.len.ensures, c.args.watches.now.pairs.ok) in
     forced_unit c.args.list.now.clauses es c.imply.new.self.entries e c.args.clause.now
     (length c.args.watches.now.pairs.items) r.forced r.there reason r.unit later
@@ -72,9 +72,9 @@ returns-clause-guarded c =
     let new = c.imply.new.self.entries in
     let clause = c.args.clause.now in
     let e : Entry = record { lit = c.args.lit; level = level_of es; reason = c.len.result + 1 } in
-    let later : new ≡ es ++ e ∷ [] = ap (λ t. t.entries) c.imply.ensures in
+    let later : new ≡ es ++ e ∷ [] = ap (λ t. t.entries) c.imply.ensures.trail in
     let above : 0 < e.reason = omega arith in
     keeps_watched c.args.list.now.clauses c.args.watches.now.lists c.watch_two.new.watches.lists c.args.watches.now.pairs.items
     c.watch_two.new.watches.pairs.items es new (e ∷ []) clause c.args.lit c.args.other c.watch_two.ensures.guarded later r.there
-    (guards_beside c.imply.new.self.vars es new e clause c.args.other c.level-level.ensures.levelled c.len-ordered.ensures.ordered
+    (guards_beside c.imply.new.self.vars es new e clause c.args.other c.level-level.ensures.levelled c.imply.ensures.ordered
     above refl r.unit later r.present)

@@ -32,7 +32,7 @@ returns-clause-forced c =
     let r = c.requires in
     let es = c.args.trail.now.entries in
     let e : Entry = record { lit = c.args.lit; level = level_of es; reason = c.len.result + 1 } in
-    let later : c.imply.new.self.entries ≡ es ++ e ∷ [] = ap (λ t. t.entries) c.imply.ensures in
+    let later : c.imply.new.self.entries ≡ es ++ e ∷ [] = ap (λ t. t.entries) c.imply.ensures.trail in
     let reason : e.reason ≡ length c.args.watches.now.pairs.items + 1 = omega (arith, c.len.ensures, c.args.watches.now.pairs.ok) in
     forced_unit c.args.list.now.clauses es c.imply.new.self.entries e c.args.clause.now
     (length c.args.watches.now.pairs.items) r.forced r.there reason r.unit later
@@ -44,9 +44,9 @@ returns-clause-guarded c =
     let new = c.imply.new.self.entries in
     let clause = c.args.clause.now in
     let e : Entry = record { lit = c.args.lit; level = level_of es; reason = c.len.result + 1 } in
-    let later : new ≡ es ++ e ∷ [] = ap (λ t. t.entries) c.imply.ensures in
+    let later : new ≡ es ++ e ∷ [] = ap (λ t. t.entries) c.imply.ensures.trail in
     let above : 0 < e.reason = omega arith in
     let bottom : level_of new ≡ 0 = ap level_of later ∙ level_extends es (es ++ e ∷ []) (Extends_push es e above refl) ∙ r.bottom in
     keeps_good c.args.list.now.clauses c.args.watches.now.lists c.watch_none.new.watches.lists c.args.watches.now.pairs.items
     c.watch_none.new.watches.pairs.items es new (e ∷ []) clause c.watch_none.ensures.guarded c.watch_none.ensures.lists later r.there
-    (good_at_zero c.imply.new.self.vars new clause c.len-ordered.ensures.ordered bottom (unit_satisfied es new e clause r.unit later))
+    (good_at_zero c.imply.new.self.vars new clause c.imply.ensures.ordered bottom (unit_satisfied es new e clause r.unit later))

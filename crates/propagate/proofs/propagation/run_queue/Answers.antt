@@ -10,7 +10,8 @@ use Rattle.propagate.specs.Watching.{code_of, AreGuarded, ArePassed}
 use Rattle.propagate.proofs.Extending.{Extends_trans, longer_extends}
 use Rattle.propagate.proofs.Guarding.{are_guarded_see, queue_extends, queue_first, queue_see}
 use Rattle.propagate.proofs.Steps.{take_extends, get_extends}
-use Rattle.propagate.proofs.Values.{var_neg, false_there}
+use Rattle.clause_base.proofs.LiteralLemmas.{var_neg}
+use Rattle.propagate.proofs.Values.{false_there}
 use Rattle.propagate.proofs.propagation.run_queue.Goals as goal
 
 pub go_through-requires-clause-in_range : goal.go_through-requires-clause-in_range

@@ -1,5 +1,5 @@
 use Rattle.std.proofs.Common.{◌≡◌, ◌∙◌, ◌^◌, ap, ℕ, Bool, Some, inr}
-use Rattle.placement_clauses.specs.Truth.{AllHold}
+use Rattle.clause_base.specs.TruthValues.{AllHold}
 use Rattle.refute_check.specs.Taken.{decided}
 use Rattle.refute_check.specs.declared.checked.Checked.{Checked}
 use Rattle.refute_check.specs.declared.checked.Checked.TheVariants as checked

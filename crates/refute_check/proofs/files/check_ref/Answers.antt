@@ -3,7 +3,7 @@ use Rattle.mcu_jumps.specs.Position.{Position}
 use Rattle.flow_graph.specs.Graph.{graph_of}
 use Rattle.flow_graph.specs.declared.programs.Program.{Program}
 use Rattle.place_model.specs.Legal.{IsLegal}
-use Rattle.placement_clauses.specs.Truth.{AllHold, truth_in}
+use Rattle.clause_base.specs.TruthValues.{AllHold, truth_in}
 use Rattle.placement_clauses.specs.Meaning.{meaning}
 use Rattle.placement_clauses.proofs.MeaningLemmas.{meaning-sound}
 use Rattle.clause_encode.specs.PlacementList.{list_of}

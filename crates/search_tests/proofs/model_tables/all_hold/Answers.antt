@@ -1,7 +1,7 @@
 use Rattle.std.proofs.Common.{◌≡◌, ◌+◌, ◌-◌, ◌<◌, ◌∙◌, ℤ, List, Some, true, ap, sym, subst, arith, below_more, get_or}
 use Rattle.std.specs.Prelude.{slice_get}
 use Rattle.std.proofs.lemmas.Option.{same_Some, slice_get-get_or}
-use Rattle.placement_clauses.specs.Truth.{clause_holds, truth_in}
+use Rattle.clause_base.specs.TruthValues.{clause_holds, truth_in}
 use Rattle.search_tests.proofs.model_tables.all_hold.Goals as goal
 
 pub loop-place-preserved : goal.loop-place-preserved

@@ -1,6 +1,6 @@
 use Rattle.std.proofs.Common.{◌≡◌, ◌<◌, ℕ, ℤ, List, Some, true}
 use Rattle.std.specs.Prelude.{slice_get}
-use Rattle.placement_clauses.specs.Truth.{clause_holds, truth_in}
+use Rattle.clause_base.specs.TruthValues.{clause_holds, truth_in}
 use Rattle.search_tests.proofs.model_tables.all_hold.Given as goal
 
 -- the clauses so far are true

@@ -1,6 +1,6 @@
 use Rattle.std.proofs.Common.{subst, Bool, List}
 use Rattle.clause_base.specs.Clauses.{Clauses}
-use Rattle.placement_clauses.specs.Truth.{AllHold, truth_in}
+use Rattle.clause_base.specs.TruthValues.{AllHold, truth_in}
 use Rattle.search_tests.proofs.model_tables.placed.Goals as goal
 
 pub place_of-requires-clause-holds : goal.place_of-requires-clause-holds

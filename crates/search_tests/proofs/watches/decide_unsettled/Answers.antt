@@ -8,7 +8,7 @@ use Rattle.clause_base.specs.Lit.{var_of, is_positive}
 use Rattle.clause_base.specs.Truth.{lits_of, value_in, IsSettled, AreSettled}
 use Rattle.clause_base.specs.declared.entry.Entry.{Entry}
 use Rattle.trail.specs.Assignment.{level_of}
-use Rattle.propagate.proofs.Values.{var_neg}
+use Rattle.clause_base.proofs.LiteralLemmas.{var_neg}
 use Rattle.search_tests.proofs.watches.decide_unsettled.Goals as goal
 
 -- the clauses are settled where the one that there is is

@@ -13,7 +13,7 @@ use Rattle.clause_base.specs.declared.line.Line.{Line}
 use Rattle.clause_base.specs.Truth as truth
 use Rattle.clause_base.specs.Truth.{sign_in, IsFalse, IsUnit, IsNumbered, Forces, IsConflict}
 use Rattle.clause_base.specs.Refutation.{IsUnitRun, Derived}
-use Rattle.placement_clauses.specs.Truth.{lit_holds, clause_holds, AllHold}
+use Rattle.clause_base.specs.TruthValues.{lit_holds, clause_holds, AllHold}
 
 -- each literal is true
 abbrev pub AreTrue : (ℕ → Bool) → List ℤ → Type 0
