@@ -7,11 +7,14 @@ use Rattle.std.specs.Map.{keys_of, lookup}
 use Rattle.std.proofs.lemmas.Cmp.{nat_eq_equiv}
 use Rattle.std.proofs.lemmas.List.{map-append}
 use Rattle.std.proofs.lemmas.List.Elements.{All-nil, All-push}
+use Rattle.std.proofs.lemmas.Result.{IfOk-weaker}
 use Rattle.std.proofs.lemmas.Map.Entries.{All-lookup}
 use Rattle.std.proofs.lemmas.Map.Keys.{IsDistinct-push}
 use Rattle.std.proofs.Math.Nat.{pow-suc}
 use Rattle.micro_lex.specs.Lines.{lines}
-use Rattle.field_decl.specs.Results.{◌>>=◌, in_line}
+use Rattle.field_decl.specs.LineByLine.{lines_read}
+use Rattle.field_decl.specs.Results.{◌>>=◌}
+use Rattle.field_decl.proofs.LineByLine.{read_keeps}
 use Rattle.field_decl.specs.declared.word.Word.{Word}
 use Rattle.field_decl.specs.declared.word.Word.TheVariants as words
 use Rattle.bus_script.specs.declared.buses.Buses.{Buses}
@@ -19,7 +22,7 @@ use Rattle.bus_script.specs.declared.fault.ScriptKind.{ScriptKind}
 use Rattle.bus_script.specs.declared.fault.ScriptKind.TheVariants as kinds
 use Rattle.bus_script.specs.declared.setting.Given.{Given}
 use Rattle.bus_script.specs.declared.setting.Setting.{Setting}
-use Rattle.bus_script.specs.Script.{Said, Nothing, MemoryWord, Clock, BusScript, script_by, value_at, memory_line, keyword_line, words_said, line_said, lines_said, script_of, idle}
+use Rattle.bus_script.specs.Script.{Said, Nothing, MemoryWord, Clock, BusScript, script_by, value_at, memory_line, keyword_line, words_said, line_said, line_read, script_of, idle}
 use Rattle.bus_script.specs.ScriptFits.{AreBusesFor, IsMemoryWordFor, IsScriptFor}
 use Rattle.bus_script.specs.ScriptSteps.{with_line}
 use Rattle.bus_script.specs.Settings.{settings_of, clock_buses}
@@ -41,11 +44,6 @@ either_fits : {A E : Type 0} (P : A → Type 0) (test : Bool) (yes_read no_read 
     → IfOk (if test then yes_read else no_read) P
 either_fits P true yes_read no_read h k = h
 either_fits P false yes_read no_read h k = k
-
--- a reading fits in its line
-line_fits : {A : Type 0} (P : A → Type 0) (line : ℕ) (read : Result A ScriptKind) → IfOk read P → IfOk (in_line line read) P
-line_fits P line (Ok x) h = h
-line_fits P line (Err e) h = tt
 
 -- ---- the settings of a clock line
 
@@ -217,26 +215,21 @@ push_fits slices script (Clock buses) h k =
     record { memory = h.memory; distinct = h.distinct; clocks = All-push (AreBusesFor slices) script.clocks buses h.clocks k }
 
 -- all lines
-lines_fit : (slices : ℕ) (earlier : List Said) (rest : List (List ℕ)) → IsScriptFor slices (script_by earlier)
-    → IfOk (lines_said slices earlier rest) (λ all. IsScriptFor slices (script_by all))
-unfolding lines_said
-lines_fit slices earlier [] h = h
-lines_fit slices earlier (line ∷ rest) h =
-    let read = line_said slices (length earlier + 1) (script_by earlier).memory line in
-    bind_fits (IsSaidFor slices (script_by earlier).memory) (λ all. IsScriptFor slices (script_by all))
-    (in_line (length earlier + 1) read) (λ said. lines_said slices (earlier ++ said ∷ []) rest)
-    (line_fits (IsSaidFor slices (script_by earlier).memory) (length earlier + 1) read
+lines_fit : (slices : ℕ) (all : List (List ℕ)) → IfOk (lines_read (line_read slices) [] all) (λ said. IsScriptFor slices (script_by said))
+unfolding IsDistinct
+lines_fit slices all =
+    read_keeps (line_read slices) (λ said. IsScriptFor slices (script_by said))
+    (λ earlier line h. IfOk-weaker (line_read slices earlier line) (IsSaidFor slices (script_by earlier).memory)
+    (λ said. IsScriptFor slices (script_by (earlier ++ said ∷ [])))
+    (λ said k. subst (IsScriptFor slices) (sym (script_push earlier said)) (push_fits slices (script_by earlier) said h k))
     (said_fits slices (length earlier + 1) (script_by earlier).memory line))
-    (λ said k. lines_fit slices (earlier ++ said ∷ []) rest
-    (subst (IsScriptFor slices) (sym (script_push earlier said)) (push_fits slices (script_by earlier) said h k)))
+    [] all (record { memory = All-nil _; distinct = tt; clocks = All-nil _ })
 
 -- a script that is read fits
 pub script_fits : (slices : ℕ) (bytes : List ℕ) → IfOk (script_of slices bytes) (IsScriptFor slices)
-unfolding IsDistinct
 script_fits slices bytes =
-    bind_fits (λ all. IsScriptFor slices (script_by all)) (IsScriptFor slices) (lines_said slices [] (lines bytes))
-    (λ said. Ok (script_by said))
-    (lines_fit slices [] (lines bytes) (record { memory = All-nil _; distinct = tt; clocks = All-nil _ })) (λ said h. h)
+    bind_fits (λ all. IsScriptFor slices (script_by all)) (IsScriptFor slices) (lines_read (line_read slices) [] (lines bytes))
+    (λ said. Ok (script_by said)) (lines_fit slices (lines bytes)) (λ said h. h)
 
 -- ---- what a script that fits gives
 

@@ -1,10 +1,11 @@
 -- A bus script: what a text says, or its first refused line. This is this project's own format.
-use Rattle.std.specs.Prelude.{ℕ, ◌+◌, ◌^◌, ◌||◌, nat_eq, nat_le, nat_lt, List, [], ◌∷◌, ◌++◌, length, Option, Some, None, is_some, unwrap_or, Result, Ok, Err, codes, slice_get, if◌then◌else◌}
+use Rattle.std.specs.Prelude.{ℕ, ◌+◌, ◌^◌, ◌||◌, nat_eq, nat_le, nat_lt, List, [], ◌∷◌, length, Option, Some, None, is_some, unwrap_or, Result, Ok, Err, codes, slice_get, if◌then◌else◌}
 use Rattle.std.specs.List.{filter_map}
 use Rattle.std.specs.Map.{lookup}
 use Rattle.std.specs.Str.{bytes_eq}
 use Rattle.micro_lex.specs.Lines.{lines}
-use Rattle.field_decl.specs.Results.{◌>>=◌, in_line}
+use Rattle.field_decl.specs.LineByLine.{lines_read}
+use Rattle.field_decl.specs.Results.{◌>>=◌}
 use Rattle.field_decl.specs.declared.word.Word.{Word}
 use Rattle.field_decl.specs.declared.word.Word.TheVariants.{Name, Number}
 use Rattle.bus_script.specs.declared.buses.Buses.{Buses}
@@ -93,14 +94,10 @@ words_said slices memory _ = Err kinds.Word
 unfoldable pub line_said : ℕ → ℕ → List (ℕ × ℕ) → List ℕ → Result Said ScriptKind
 line_said slices number memory line = if nat_lt 65536 number then Err kinds.Lines else words_of line >>= words_said slices memory
 
--- what these and the further lines say, each judged after all lines before it, or the first line that is refused, by
--- its number
-unfoldable pub lines_said : ℕ → List Said → List (List ℕ) → Result (List Said) (ℕ × ScriptKind)
-lines_said slices earlier [] = Ok earlier
-lines_said slices earlier (line ∷ rest) =
-    in_line (length earlier + 1) (line_said slices (length earlier + 1) (script_by earlier).memory line) >>= λ said. lines_said slices
-    (earlier ++ said ∷ []) rest
+-- what a line says after these lines, or why it is refused
+abbrev pub line_read : ℕ → List Said → List ℕ → Result Said ScriptKind
+line_read slices earlier line = line_said slices (length earlier + 1) (script_by earlier).memory line
 
 -- the script of a text for an array of this many slices, or the first refused line
 abbrev pub script_of : ℕ → List ℕ → Result BusScript (ℕ × ScriptKind)
-script_of slices bytes = lines_said slices [] (lines bytes) >>= λ said. Ok (script_by said)
+script_of slices bytes = lines_read (line_read slices) [] (lines bytes) >>= λ said. Ok (script_by said)

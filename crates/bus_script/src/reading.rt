@@ -15,7 +15,7 @@ use micro_lex::next_line;
 use std::alloc::Global;
 
 // Takes all lines of a script.
-#[tactic(auto, unfolding(crate::specs::ScriptSteps::after_lines))]
+#[tactic(auto, unfolding(field_decl::specs::LineByLine::lines_taken))]
 fn take_lines(alloc: Global, bytes: &[u8], slices: u8) -> Result<Script, ScriptFault>
     requires small { length bytes.now < 2 ^ 32 }
     requires slices { slices ≤ 16 }

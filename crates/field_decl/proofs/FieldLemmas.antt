@@ -1,6 +1,6 @@
 -- Lists of fields: names, widths, and the write field.
 use Rattle.std.proofs.Common.{◌≡◌, ℕ, zero, suc, ◌+◌, ◌≤◌, ◌<◌, Bool, true, false, not, ◌&&◌, ◌||◌, cond, List, [], ◌∷◌, ◌++◌, length, get_or, Option, Some, None, refl, sym, ap, subst, ◌∙◌, arith, eqb, ltb, inl, inr}
-use Rattle.std.specs.Prelude.{map, slice_get, option_and_then, nat_lt, nat_le, ◌^◌}
+use Rattle.std.specs.Prelude.{slice_get, option_and_then, nat_lt, nat_le, ◌^◌}
 use Rattle.std.specs.List.{list_any, list_all, position_or_len}
 use Rattle.std.specs.Str.{bytes_eq}
 use Rattle.std.proofs.lemmas.Bool.{cases_Bool, and_parts, and_from, or_parts, or_from, not-true, not-false, not_from_false, leb-true, lt-ltb, ltb-true, or_left, or_right, both_ways, and_left}
@@ -9,17 +9,6 @@ use Rattle.std.proofs.lemmas.List.Folds.{list_any-append}
 use Rattle.std.proofs.lemmas.List.Sums.{sum_by-append, sum_by-cons, prefix_len_stops}
 use Rattle.field_decl.specs.declared.field.Field.{Field}
 use Rattle.field_decl.specs.Fields.{has_field, is_sized, are_distinct, widths, can_write, write_place, is_one_bit, is_write}
-
--- a name among the names of the fields is a field's
-pub has_name : (name : List ℕ) (fields : List Field) → list_any (bytes_eq name) (map (λ field. field.name) fields) ≡ has_field fields name
-has_name name [] = refl
-has_name name (field ∷ fields) = ap (λ (b : Bool). bytes_eq name field.name || b) (has_name name fields)
-
--- the names with one field more
-pub map_push : (fields : List Field) (field : Field)
-    → map (λ f. f.name) (fields ++ field ∷ []) ≡ map (λ f. f.name) fields ++ field.name ∷ []
-map_push [] field = refl
-map_push (f ∷ fields) field = ap (λ (names : List (List ℕ)). f.name ∷ names) (map_push fields field)
 
 -- one more field of a new name leaves the names distinct
 pub distinct_push : (fields : List Field) (field : Field) → are_distinct fields ≡ true → has_field fields field.name ≡ false

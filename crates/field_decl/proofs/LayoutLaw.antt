@@ -1,21 +1,21 @@
 -- Going from what is declared to what is declared is judging each line after all lines before it.
-use Rattle.std.proofs.Common.{◌≡◌, ℕ, ◌+◌, List, [], ◌∷◌, ◌++◌, length, Option, Some, None, Result, Ok, Err, refl, sym, ap, ◌∙◌, arith}
-use Rattle.std.proofs.lemmas.List.{append-nil, length-append}
+use Rattle.std.proofs.Common.{◌≡◌, ℕ, List, [], ◌∷◌, ◌++◌, Option, Some, None, Result, Ok, Err, refl, sym, ap, ◌∙◌}
+use Rattle.std.proofs.lemmas.List.{append-nil}
 use Rattle.std.proofs.lemmas.List.Elements.{filter_map-append}
 use Rattle.micro_lex.specs.Lines.{lines}
 use Rattle.field_decl.specs.declared.directive.Directive.{Directive}
 use Rattle.field_decl.specs.declared.directive.Directive.TheVariants.{Slices, KBus, Field, Prom, Write}
 use Rattle.field_decl.specs.declared.fault.AsmKind.{AsmKind}
 use Rattle.field_decl.specs.declared.refusal.Refusal.{Refusal}
-use Rattle.field_decl.specs.declared.refusal.Refusal.TheVariants as faults
 use Rattle.field_decl.specs.declared.word.Word.{Word}
 use Rattle.field_decl.specs.Declaration.{Declaration}
 use Rattle.field_decl.specs.Earlier.{Declared, declared_by, with_directive, first, given_or}
 use Rattle.field_decl.specs.Judging.{refusal}
-use Rattle.field_decl.specs.Layout.{line_form, directives_in, line_refusal, line_read, lines_read, layout_of, completed}
+use Rattle.field_decl.specs.Layout.{line_form, directives_in, line_refusal, line_read, layout_of, completed}
 use Rattle.field_decl.specs.LayoutSteps.{line_judged, after_line, after_lines}
 use Rattle.field_decl.specs.Results.{◌>>=◌, unless_refused, in_line, RefusesAt}
 use Rattle.field_decl.specs.Words.{words_of}
+use Rattle.field_decl.proofs.LineByLine.{summed_with, TakesAsRead, text_is, refused_text}
 
 -- the first of a list with one element more
 pub first_push : {X : Type 0} (xs : List X) (y : X) → first (xs ++ y ∷ []) ≡ given_or (first xs) y
@@ -48,87 +48,51 @@ said_one earlier directive = ap declared_by (filter_map-append (λ line. line) e
 abbrev ok_declared : Declared → Result Declared AsmKind
 ok_declared declared = Ok declared
 
-abbrev after : List (Option Directive) → Option Directive → Result Declared AsmKind
-after earlier read = Ok (declares (earlier ++ read ∷ []))
-
 -- a directive is taken as it is judged
 judged_one : (earlier : List (Option Directive)) (directive : Directive) (why : Option AsmKind)
-    → unless_refused why (with_directive (declares earlier) directive) ≡ (unless_refused why (Some directive) >>= after earlier)
+    → unless_refused why (with_directive (declares earlier) directive) ≡ (unless_refused why (Some directive) >>= summed_with declares earlier)
 judged_one earlier directive None = ap ok_declared (sym (said_one earlier directive))
 judged_one earlier directive (Some kind) = refl
 
 -- a line is taken as it is judged
 judged_line : (earlier : List (Option Directive)) (read : Option Directive)
-    → line_judged (declares earlier) read ≡ (unless_refused (line_refusal earlier read) read >>= after earlier)
+    → line_judged (declares earlier) read ≡ (unless_refused (line_refusal earlier read) read >>= summed_with declares earlier)
 judged_line earlier None = ap ok_declared (sym (said_nothing earlier))
 judged_line earlier (Some directive) = judged_one earlier directive (refusal (declares earlier) directive)
 
 -- and so is its form
 formed_line : (earlier : List (Option Directive)) (formed : Result (Option Directive) AsmKind)
     → (formed >>= line_judged (declares earlier))
-    ≡ ((formed >>= λ read. unless_refused (line_refusal earlier read) read) >>= after earlier)
+    ≡ ((formed >>= λ read. unless_refused (line_refusal earlier read) read) >>= summed_with declares earlier)
 formed_line earlier (Ok read) = judged_line earlier read
 formed_line earlier (Err kind) = refl
 
 -- and so are its words
 worded_line : (earlier : List (Option Directive)) (words : Result (List Word) AsmKind)
     → (words >>= line_form >>= line_judged (declares earlier))
-    ≡ ((words >>= line_form >>= λ read. unless_refused (line_refusal earlier read) read) >>= after earlier)
+    ≡ ((words >>= line_form >>= λ read. unless_refused (line_refusal earlier read) read) >>= summed_with declares earlier)
 worded_line earlier (Ok words) = formed_line earlier (line_form words)
 worded_line earlier (Err kind) = refl
 
 -- a line is taken into what is declared as it is read after the lines before it
-taken : (earlier : List (Option Directive)) (line : List ℕ)
-    → after_line (declares earlier) line ≡ (line_read earlier line >>= after earlier)
+taken : TakesAsRead line_read (λ state _ line. after_line state line) declares
 unfolding after_line line_read
 taken earlier line = worded_line earlier (words_of line)
-
-abbrev all_read : List (Option Directive) → Result Declared (ℕ × AsmKind)
-all_read read = Ok (declares read)
-
--- the lines behind a line that is read
-goes_on : (earlier : List (Option Directive)) (rest : List (List ℕ)) (number : ℕ)
-    → ((read : Option Directive)
-    → after_lines (declares (earlier ++ read ∷ [])) (number + 1) rest ≡ (lines_read (earlier ++ read ∷ []) rest >>= all_read))
-    → (read : Result (Option Directive) AsmKind)
-    → (in_line number (read >>= after earlier) >>= λ more. after_lines more (number + 1) rest)
-    ≡ ((in_line number read >>= λ said. lines_read (earlier ++ said ∷ []) rest) >>= all_read)
-goes_on earlier rest number more (Ok read) = more read
-goes_on earlier rest number more (Err kind) = refl
-
--- all lines are taken as they are read
-lines_taken : (earlier : List (Option Directive)) (rest : List (List ℕ))
-    → after_lines (declares earlier) (length earlier + 1) rest ≡ (lines_read earlier rest >>= all_read)
-unfolding after_lines lines_read
-lines_taken earlier [] = refl
-lines_taken earlier (line ∷ rest) =
-    ap (λ (r : Result Declared AsmKind). in_line (length earlier + 1) r >>= λ more. after_lines more (length earlier + 1 + 1) rest)
-    (taken earlier line)
-    ∙ goes_on earlier rest (length earlier + 1)
-    (λ read. ap (λ (k : ℕ). after_lines (declares (earlier ++ read ∷ [])) k rest) (omega (arith, length-append earlier (read ∷ [])))
-    ∙ lines_taken (earlier ++ read ∷ []) rest) (line_read earlier line)
 
 abbrev pub finishing : Declared → Result Declaration (ℕ × AsmKind)
 finishing declared = in_line 0 (completed declared)
 
--- and then completed
-finished : (read : Result (List (Option Directive)) (ℕ × AsmKind))
-    → (read >>= λ all. in_line 0 (completed (declares all))) ≡ ((read >>= all_read) >>= finishing)
-finished (Ok all) = refl
-finished (Err refused) = refl
-
 -- a layout is what its lines declare one after the other, completed
 pub layout_is : (bytes : List ℕ) → layout_of bytes ≡ (after_lines (declared_by []) 1 (lines bytes) >>= finishing)
-layout_is bytes = finished (lines_read [] (lines bytes))
-    ∙ ap (λ (r : Result Declared (ℕ × AsmKind)). r >>= finishing) (sym (lines_taken [] (lines bytes)))
+layout_is bytes = text_is line_read (λ state _ line. after_line state line) declares finishing taken (lines bytes)
 
 -- ---- what `read_decl` needs
 
 -- what refuses a line refuses the layout
 pub refused_in : (fault : Refusal AsmKind) (bytes : List ℕ) → RefusesAt fault (after_lines (declared_by []) 1 (lines bytes))
     → RefusesAt fault (layout_of bytes)
-refused_in faults.OutOfMemory bytes h = tt
-refused_in (faults.At line kind) bytes h = layout_is bytes ∙ ap (λ (r : Result Declared (ℕ × AsmKind)). r >>= finishing) h
+refused_in fault bytes h =
+    refused_text finishing fault (after_lines (declared_by []) 1 (lines bytes)) (layout_of bytes) (layout_is bytes) h
 
 -- what the lines declare is completed
 pub completed_in : (declared : Declared) (bytes : List ℕ) → after_lines (declared_by []) 1 (lines bytes) ≡ Ok declared

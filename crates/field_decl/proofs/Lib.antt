@@ -2,8 +2,10 @@ pub mod DrivenBits
 pub mod FieldLemmas
 pub mod LayoutLaw
 pub mod LayoutLength
+pub mod LineByLine
 pub mod MaskLaw
 pub mod NamePads
+pub mod NamedLists
 pub mod ReadAgain
 pub mod Sound
 pub mod SpacedRuns

@@ -23,6 +23,7 @@ use Rattle.field_decl.specs.Judging.{refusal}
 use Rattle.field_decl.specs.Layout.{line_form, layout_of}
 use Rattle.field_decl.specs.LayoutSteps.{line_judged, after_line, after_lines}
 use Rattle.field_decl.specs.LayoutText.{printed, slices_runs, kbus_runs, field_runs, prom_runs, write_runs, fields_text, write_line, write_text, layout_text}
+use Rattle.field_decl.specs.LineByLine.{lines_taken}
 use Rattle.field_decl.specs.Results.{◌>>=◌, unless_refused, in_line}
 use Rattle.field_decl.specs.Spaced.{Run, IsRun, AreRuns, spaced}
 use Rattle.field_decl.specs.Words.{word_of, words_from, words_of}
@@ -44,7 +45,7 @@ line_taken : (declared : Declared) (number : ℕ) (runs : List Run) (directive :
     → line_form (map (λ run. word_of run.1 run.0) runs) ≡ Ok (Some directive) → refusal declared directive ≡ None
     → after_lines declared number (lines (printed runs ++ rest)) ≡ after_lines (with_directive declared directive) (number + 1)
     (lines rest)
-unfolding after_lines after_line
+unfolding lines_taken after_line
 line_taken declared number runs directive rest all form accepted =
     let judged : after_line declared (spaced runs) ≡ Ok (with_directive declared directive) =
     ap (λ (r : Result (List Word) AsmKind). r >>= line_form >>= line_judged declared) (words_of_runs runs all)
@@ -206,7 +207,7 @@ write_taken : (slices kbus number : ℕ) (fields : List Field) (words bits : ℕ
     → list_any (can_write name) fields ≡ true
     → after_lines (with_prom slices kbus fields words bits None) number (lines (printed (write_runs name))) ≡ Ok
     (with_prom slices kbus fields words bits (Some name))
-unfolding refusal directive_form after_lines
+unfolding refusal directive_form lines_taken
 write_taken slices kbus number fields words bits name is_name can =
     ap (λ (text : List ℕ). after_lines (with_prom slices kbus fields words bits None) number (lines text))
     (sym (append-nil (printed (write_runs name))))
@@ -249,7 +250,7 @@ ends_at slices kbus fields words bits place number (Some field) e bit named dist
 -- with or without a write field
 ends_in : (slices kbus : ℕ) (fields : List Field) (words bits : ℕ) (write : Option ℕ) (number : ℕ) → is_write write fields ≡ true
     → All (λ f. IsName f.name) fields → are_distinct fields ≡ true → EndsIn slices kbus fields words bits write number
-unfolding after_lines
+unfolding lines_taken
 ends_in slices kbus fields words bits None number bit named distinct = record { name = None; read = refl; place = refl }
 ends_in slices kbus fields words bits (Some place) number bit named distinct =
     ends_at slices kbus fields words bits place number (slice_get fields place) refl bit named distinct

@@ -1,5 +1,5 @@
 -- The layout file: what a text declares, or its first refused line. This is this project's own format.
-use Rattle.std.specs.Prelude.{ℕ, ◌+◌, List, [], ◌∷◌, ◌++◌, length, Option, Some, None, Result, Ok, Err}
+use Rattle.std.specs.Prelude.{ℕ, List, [], ◌∷◌, Option, Some, None, Result, Ok, Err}
 use Rattle.std.specs.List.{filter_map}
 use Rattle.micro_lex.specs.Lines.{lines}
 use Rattle.field_decl.specs.declared.word.Word.{Word}
@@ -11,6 +11,7 @@ use Rattle.field_decl.specs.Declaration.{Declaration}
 use Rattle.field_decl.specs.Earlier.{Declared, declared_by, declaration_with}
 use Rattle.field_decl.specs.Directives.{directive_form}
 use Rattle.field_decl.specs.Judging.{refusal}
+use Rattle.field_decl.specs.LineByLine.{lines_read}
 use Rattle.field_decl.specs.Results.{◌>>=◌, unless_refused, in_line}
 use Rattle.field_decl.specs.Words.{words_of}
 
@@ -38,12 +39,6 @@ line_refusal earlier (Some directive) = refusal (declared_by (directives_in earl
 unfoldable pub line_read : List (Option Directive) → List ℕ → Result (Option Directive) AsmKind
 line_read earlier line = words_of line >>= line_form >>= λ read. unless_refused (line_refusal earlier read) read
 
--- what these and the further lines say, or the first line that is refused, by its number
-unfoldable pub lines_read : List (Option Directive) → List (List ℕ) → Result (List (Option Directive)) (ℕ × AsmKind)
-lines_read earlier [] = Ok earlier
-lines_read earlier (line ∷ rest) =
-    in_line (length earlier + 1) (line_read earlier line) >>= λ read. lines_read (earlier ++ read ∷ []) rest
-
 -- the slices have no default
 abbrev pub completed_with : Option ℕ → Declared → Result Declaration AsmKind
 completed_with None declared = Err kinds.Slices
@@ -55,4 +50,4 @@ completed declared = completed_with declared.slices declared
 
 -- what a layout text declares, or the first refused line; a missing slices line is told at line 0
 abbrev pub layout_of : List ℕ → Result Declaration (ℕ × AsmKind)
-layout_of bytes = lines_read [] (lines bytes) >>= λ read. in_line 0 (completed (declared_by (directives_in read)))
+layout_of bytes = lines_read line_read [] (lines bytes) >>= λ read. in_line 0 (completed (declared_by (directives_in read)))

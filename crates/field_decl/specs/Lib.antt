@@ -3,6 +3,7 @@ pub mod Fields
 pub mod Declaration
 pub mod Decls
 pub mod Results
+pub mod LineByLine
 pub mod Words
 pub mod Directives
 pub mod Earlier

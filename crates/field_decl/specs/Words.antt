@@ -34,18 +34,26 @@ kind_of BadNumber column = kinds.BadNumber column
 kind_of NumberTooWide column = kinds.NumberTooWide column
 kind_of NameTooLong column = kinds.NameTooLong column
 
--- the refusal that reports a lexical fault
-abbrev pub lexical_fault : LexFault → LineRefusal AsmKind
-lexical_fault (lexical.BadByte column) = line_faults.Kind (kinds.BadByte column)
-lexical_fault (lexical.BadNumber column) = line_faults.Kind (kinds.BadNumber column)
-lexical_fault (lexical.NumberTooWide column) = line_faults.Kind (kinds.NumberTooWide column)
-lexical_fault (lexical.NameTooLong column) = line_faults.Kind (kinds.NameTooLong column)
-lexical_fault lexical.OutOfMemory = line_faults.OutOfMemory
+-- the refusal that reports a lexical fault, in a language where these are the kinds of such faults
+abbrev pub lexical_refusal : {K : Type 0} → (Cause → ℕ → K) → LexFault → LineRefusal K
+lexical_refusal kind (lexical.BadByte column) = line_faults.Kind (kind BadByte column)
+lexical_refusal kind (lexical.BadNumber column) = line_faults.Kind (kind BadNumber column)
+lexical_refusal kind (lexical.NumberTooWide column) = line_faults.Kind (kind NumberTooWide column)
+lexical_refusal kind (lexical.NameTooLong column) = line_faults.Kind (kind NameTooLong column)
+lexical_refusal kind lexical.OutOfMemory = line_faults.OutOfMemory
 
--- the words of the tokens that were found
+-- the words of the tokens that were found, or the line's refusal
+abbrev pub words_or : {K : Type 0} → (Cause → ℕ → K) → List ℕ → Result (List Token) Fault → Result (List Word) K
+words_or kind line (Ok found) = Ok (map (word_from line) found)
+words_or kind line (Err fault) = Err (kind fault.cause fault.column)
+
+-- the refusal that reports a lexical fault of a source or a layout
+abbrev pub lexical_fault : LexFault → LineRefusal AsmKind
+lexical_fault fault = lexical_refusal kind_of fault
+
+-- the words of the tokens of a source or a layout
 abbrev pub words_from : List ℕ → Result (List Token) Fault → Result (List Word) AsmKind
-words_from line (Ok found) = Ok (map (word_from line) found)
-words_from line (Err fault) = Err (kind_of fault.cause fault.column)
+words_from line found = words_or kind_of line found
 
 -- the words of a line, or its refusal for its first faulty place
 unfoldable pub words_of : List ℕ → Result (List Word) AsmKind

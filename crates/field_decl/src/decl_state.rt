@@ -14,8 +14,7 @@ ghost use Rattle.field_decl.specs.declared.directive.Directive.TheVariants as di
 use crate::decl::Decl;
 use crate::directive::Directive;
 use crate::fault::{AsmKind, LineFault};
-use crate::field::{Field, can_write, widths, write_place};
-use crate::field_table::FieldTable;
+use crate::field::{Field, FieldTable, can_write, widths, write_place};
 use crate::name::Name;
 use std::alloc::Global;
 use std::marker::Model;
@@ -202,7 +201,7 @@ impl DeclState {
         Ok(Decl {
             slices,
             kbus: self.kbus.unwrap_or(1),
-            fields: self.fields.into_fields(),
+            fields: self.fields.into_list(),
             prom_words,
             prom_bits,
             write,

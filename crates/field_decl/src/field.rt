@@ -5,6 +5,7 @@ ghost use Rattle.std.specs.List.{list_any};
 ghost use Rattle.field_decl.specs.Fields.{widths, can_write, write_place};
 
 use crate::name::Name;
+use crate::named_table::{Named, NamedTable};
 use io_base::Listed;
 
 /// A user field of the microword.
@@ -18,8 +19,19 @@ pub struct Field {
     pub default: u32,
 }
 
+impl Named for Field {
+    ghost name_of = { λ field. field.name };
+
+    fn name(&self) -> Name {
+        self.name.certified()
+    }
+}
+
 /// Fields in the order in which they are declared.
 pub type Fields = Listed<Field>;
+
+/// Fields in the order in which they are declared, no two of one name.
+pub(crate) type FieldTable = NamedTable<Field>;
 
 /// The bits of all fields together.
 pub(crate) fn widths(fields: &[Field]) -> u32

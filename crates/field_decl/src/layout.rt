@@ -47,7 +47,7 @@ fn take_line(alloc: Global, state: &mut DeclState, line: &[u8]) -> Result<(), Li
 }
 
 // Takes all lines of a layout.
-#[tactic(auto, unfolding(crate::specs::LayoutSteps::after_lines))]
+#[tactic(auto, unfolding(crate::specs::LineByLine::lines_taken))]
 fn take_lines(alloc: Global, bytes: &[u8]) -> Result<DeclState, DeclFault>
     requires { length bytes.now < 2 ^ 32 }
     ensures { GivesText (λ state. state) result (after_lines (declared_by []) 1 (lines bytes.now)) }

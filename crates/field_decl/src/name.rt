@@ -57,6 +57,15 @@ impl Name {
         &self.bytes[..self.len]
     }
 
+    /// The same name, certified: what the type keeps of its bytes, a caller knows by this contract.
+    pub fn certified(self) -> Name
+        ensures value { result ≡ self }
+        ensures name { IsName self }
+    {
+        let _text = self.as_slice();
+        self
+    }
+
     /// Whether the name is this text.
     pub fn is(&self, text: &[u8]) -> bool
         ensures { result ≡ bytes_eq self.now text.now }

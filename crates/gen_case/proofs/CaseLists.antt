@@ -1,5 +1,5 @@
 -- All labels, all pinned labels and all clocks of a case, without writing them out.
-use Rattle.std.proofs.Common.{◌≡◌, ℕ, zero, suc, ◌+◌, ◌<◌, ◌≤◌, Bool, List, [], ◌∷◌, ◌++◌, length, Some, None, refl, sym, ap, subst, ◌∙◌, arith, inl, inr}
+use Rattle.std.proofs.Common.{◌≡◌, ℕ, zero, suc, ◌+◌, ◌<◌, ◌≤◌, Bool, List, [], ◌∷◌, ◌++◌, length, Some, refl, sym, ap, subst, ◌∙◌, arith, inl, inr}
 use Rattle.std.specs.Prelude.{map, slice_get}
 use Rattle.std.specs.List.{range_with_len, filter, AllByRecursion}
 use Rattle.std.proofs.lemmas.Bool.{cases_Bool}
@@ -69,12 +69,6 @@ range_at first zero place within = absurd (omega arith)
 range_at first (suc count) zero within = let same : first ≡ first + 0 = omega arith in ap (λ (k : ℕ). Some k) same
 range_at first (suc count) (suc place) within = let same : first + 1 + place ≡ first + suc place = omega arith in
     range_at (first + 1) count place (omega arith) ∙ ap (λ (k : ℕ). Some k) same
-
--- past them there is none
-range_end : (first count place : ℕ) → count ≤ place → slice_get (range_with_len first count) place ≡ None
-range_end first zero place past = refl
-range_end first (suc count) zero past = absurd (omega arith)
-range_end first (suc count) (suc place) past = range_end (first + 1) count place (omega arith)
 
 -- each label stands at its number
 at_with : (n label : ℕ) → n ≡ 128 → label < 128 → slice_get labels label ≡ Some label

@@ -11,6 +11,7 @@ use Rattle.field_decl.specs.declared.fault.AsmKind.{AsmKind}
 use Rattle.field_decl.specs.declared.word.Word.{Word}
 use Rattle.field_decl.specs.Directives.{directive_form}
 use Rattle.field_decl.specs.Judging.{refusal}
+use Rattle.field_decl.specs.LineByLine.{lines_taken}
 use Rattle.field_decl.specs.Results.{◌>>=◌, in_line}
 use Rattle.micro_asm.specs.declared.accepted_lines.StartLine.{StartLine}
 use Rattle.micro_asm.specs.declared.accepted_lines.PinLine.{PinLine}
@@ -39,7 +40,7 @@ use Rattle.gen_case.proofs.LineForms.{pin_readable, pin_form, instruction_readab
 line_adds : (facts : Facts) (number : ℕ) (line : List Piece) (rest : List (List ℕ)) (says : SourceLine) (read : Line) → AreReadable line
     → source_line_form (words_in line) ≡ Ok says → judged facts number says ≡ Ok read
     → after_lines facts number (pieces_text line ∷ rest) ≡ after_lines (with_line facts read) (number + 1) rest
-unfolding after_lines after_line
+unfolding lines_taken after_line
 line_adds facts number line rest says read readable form accepted =
     let added : after_line facts number (pieces_text line) ≡ Ok (with_line facts read) =
     ap (λ (r : Result (List Word) AsmKind). r >>= source_line_form >>= after_source_line facts number) (source_words line readable)
@@ -192,7 +193,7 @@ pub instrs_taken : (pins : List PinLine) (chosen : ℕ → Choice) (offset : ℕ
     → after_lines (case_facts pins instrs) (offset + first)
     (map pieces_text (map (λ label. instruction_line label (chosen label)) (range_with_len first count)))
     ≡ Ok (case_facts pins (instrs ++ instrs_in chosen offset (range_with_len first count)))
-unfolding after_lines
+unfolding lines_taken
 instrs_taken pins chosen offset instrs first zero is fits len none =
     ap (λ (found : List NamedInstr). Ok (case_facts pins found)) (sym (append-nil instrs))
 instrs_taken pins chosen offset instrs first (suc count) is fits len none =

@@ -4,6 +4,7 @@ use Rattle.std.specs.Prelude.{codes, map}
 use Rattle.std.specs.List.{range_with_len}
 use Rattle.std.proofs.lemmas.Bool.{le-ltb, lt-leb}
 use Rattle.std.proofs.lemmas.List.{append-nil}
+use Rattle.field_decl.specs.LineByLine.{lines_taken}
 use Rattle.field_decl.specs.Results.{◌>>=◌, in_line}
 use Rattle.field_decl.specs.declared.word.Word.{Word}
 use Rattle.bus_script.specs.declared.buses.Buses.{Buses}
@@ -43,7 +44,7 @@ clock_said memory word fits = rw (lt-leb 65536 word fits) refl
 clock_adds : (before : List Buses) (number word : ℕ) (rest : List (List ℕ)) → number ≤ 65536 → word < 65536
     → after_lines 8 (record { memory = []; clocks = before }) number (pieces_text (clock_line word) ∷ rest)
     ≡ after_lines 8 (record { memory = []; clocks = before ++ buses_with word ∷ [] }) (number + 1) rest
-unfolding after_lines line_said
+unfolding lines_taken line_said
 clock_adds before number word rest few fits =
     let script : BusScript = record { memory = []; clocks = before } in
     let said : line_said 8 number [] (pieces_text (clock_line word)) ≡ Ok (Clock (buses_with word)) =
@@ -60,7 +61,7 @@ clocks_taken : (words : ℕ → ℕ) (before : List Buses) (number first count :
     → after_lines 8 (record { memory = []; clocks = before }) number
     (map pieces_text (map (λ clock. clock_line (words clock)) (range_with_len first count)))
     ≡ Ok (record { memory = []; clocks = before ++ map (λ clock. buses_with (words clock)) (range_with_len first count) })
-unfolding after_lines
+unfolding lines_taken
 clocks_taken words before number first zero fits few =
     ap (λ (cs : List Buses). Ok (record { memory = []; clocks = cs })) (sym (append-nil before))
 clocks_taken words before number first (suc count) fits few =

@@ -1,11 +1,10 @@
 -- Labels of pins and of instructions.
-use Rattle.std.proofs.Common.{◌≡◌, ℕ, zero, suc, ◌+◌, ◌<◌, Bool, true, false, not, ◌||◌, cond, List, [], ◌∷◌, ◌++◌, length, Some, None, refl, sym, ap, subst, ◌∙◌, arith, ltb, inl, inr}
-use Rattle.std.specs.Prelude.{map, slice_get, position, find}
+use Rattle.std.proofs.Common.{◌≡◌, ℕ, zero, suc, ◌<◌, Bool, true, false, not, ◌||◌, cond, List, [], ◌∷◌, ◌++◌, length, Some, None, refl, sym, ap, subst, ◌∙◌, arith, ltb, inl, inr}
+use Rattle.std.specs.Prelude.{map, slice_get, find}
 use Rattle.std.specs.List.{list_any, position_or_len}
 use Rattle.std.specs.Str.{bytes_eq}
 use Rattle.std.proofs.lemmas.Bool.{cases_Bool, and_parts, and_from, or_parts, or_from, not-true, not_from_false, or_left, or_right, both_ways, lt-ltb, ltb-true}
 use Rattle.std.proofs.lemmas.Cmp.{nat_list_eq_equiv}
-use Rattle.std.proofs.lemmas.List.{length-map}
 use Rattle.std.proofs.lemmas.List.Folds.{list_any-append}
 use Rattle.std.proofs.lemmas.List.Sums.{passes_at_first}
 use Rattle.std.proofs.lemmas.Option.{cond_some, get_or_from_slice_get}
@@ -131,18 +130,6 @@ place_within instrs name place is_place =
     × (position_or_len p instrs ≡ place) =
     cond_some (ltb (position_or_len p instrs) (length instrs)) (position_or_len p instrs) place is_place in
     subst (λ (k : ℕ). k < length instrs) parts.1 (ltb-true (position_or_len p instrs) (length instrs) parts.0)
-
-first_among : (name : List ℕ) (instrs : List NamedInstr)
-    → position_or_len (bytes_eq name) (labels_of instrs) ≡ position_or_len (λ instr. bytes_eq name instr.label) instrs
-first_among name [] = refl
-first_among name (instr ∷ instrs) = ap (λ (n : ℕ). cond (not (bytes_eq name instr.label)) (1 + n) 0) (first_among name instrs)
-
--- a label's place among the labels is that of its instruction
-pub place_among : (name : List ℕ) (instrs : List NamedInstr) → position (bytes_eq name) (labels_of instrs) ≡ label_place instrs name
-place_among name instrs =
-    ap (λ (k : ℕ). cond (ltb k (length (labels_of instrs))) (Some k) None) (first_among name instrs)
-    ∙ ap (λ (n : ℕ). cond (ltb (position_or_len (λ instr. bytes_eq name instr.label) instrs) n)
-    (Some (position_or_len (λ instr. bytes_eq name instr.label) instrs)) None) (length-map instrs (λ instr. instr.label))
 
 -- labels that are apart are equal only at one place
 pub apart_at : (names : List (List ℕ)) (i j : ℕ) (a b : List ℕ) → are_apart names ≡ true → slice_get names i ≡ Some a

@@ -1,4 +1,4 @@
-pub mod FewInstructions
+pub mod FewInstrs
 pub mod LabelLemmas
 pub mod OperationLemmas
 pub mod ProgramLemmas

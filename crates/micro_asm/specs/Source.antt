@@ -1,5 +1,5 @@
 -- What a source is: a program, or its first refused line. The language is this project's own choice.
-use Rattle.std.specs.Prelude.{ℕ, ◌+◌, ◌==◌, nat_lt, Bool, false, not, List, [], ◌∷◌, ◌++◌, length, map, find, position, Option, Some, None, unwrap_or, option_map, option_and_then, Result, Ok, Err, if◌then◌else◌}
+use Rattle.std.specs.Prelude.{ℕ, ◌+◌, ◌==◌, nat_lt, Bool, false, not, List, [], length, map, find, position, Option, Some, None, unwrap_or, option_map, option_and_then, Result, Ok, Err, if◌then◌else◌}
 use Rattle.std.specs.List.{list_any}
 use Rattle.std.specs.Str.{bytes_eq}
 use Rattle.micro_lex.specs.Lines.{lines}
@@ -7,6 +7,7 @@ use Rattle.field_decl.specs.declared.fault.AsmKind.{AsmKind}
 use Rattle.field_decl.specs.declared.fault.AsmKind.TheVariants.{Empty, NoStart, UnknownLabel}
 use Rattle.field_decl.specs.Declaration.{Declaration}
 use Rattle.field_decl.specs.Layout.{completed}
+use Rattle.field_decl.specs.LineByLine.{lines_read}
 use Rattle.field_decl.specs.Results.{◌>>=◌, in_line}
 use Rattle.field_decl.specs.Words.{words_of}
 use Rattle.flow_graph.specs.declared.instructions.Instr.{Instr}
@@ -24,12 +25,6 @@ use Rattle.micro_asm.specs.Judging.{judged}
 -- what a line says after these lines, or why it is refused
 unfoldable pub line_read : List Line → List ℕ → Result Line AsmKind
 line_read earlier line = words_of line >>= source_line_form >>= judged (facts_of earlier) (length earlier + 1)
-
--- what these and the further lines say, or the first line that is refused, by its number
-unfoldable pub lines_read : List Line → List (List ℕ) → Result (List Line) (ℕ × AsmKind)
-lines_read earlier [] = Ok earlier
-lines_read earlier (line ∷ rest) =
-    in_line (length earlier + 1) (line_read earlier line) >>= λ read. lines_read (earlier ++ read ∷ []) rest
 
 -- ---- labels that no instruction has
 
@@ -122,4 +117,4 @@ program_of facts = if length facts.instrs == 0 then Err (0, Empty) else started 
 
 -- what a source means
 abbrev pub source_of : List ℕ → Result Graph (ℕ × AsmKind)
-source_of bytes = lines_read [] (lines bytes) >>= λ all. program_of (facts_of all)
+source_of bytes = lines_read line_read [] (lines bytes) >>= λ all. program_of (facts_of all)

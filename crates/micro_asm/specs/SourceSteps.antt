@@ -1,7 +1,8 @@
 -- A source read line by line, going from what is said to what is said.
-use Rattle.std.specs.Prelude.{ℕ, ◌+◌, List, [], ◌∷◌, Result, Ok}
+use Rattle.std.specs.Prelude.{ℕ, List, Result}
 use Rattle.field_decl.specs.declared.fault.AsmKind.{AsmKind}
-use Rattle.field_decl.specs.Results.{◌>>=◌, in_line}
+use Rattle.field_decl.specs.LineByLine.{lines_taken}
+use Rattle.field_decl.specs.Results.{◌>>=◌}
 use Rattle.field_decl.specs.Words.{words_of}
 use Rattle.micro_asm.specs.declared.source_line.SourceLine.{SourceLine}
 use Rattle.micro_asm.specs.SourceLines.{source_line_form}
@@ -17,6 +18,5 @@ unfoldable pub after_line : Facts → ℕ → List ℕ → Result Facts AsmKind
 after_line facts number line = words_of line >>= source_line_form >>= after_source_line facts number
 
 -- what is said with these lines, of which the first has this number
-unfoldable pub after_lines : Facts → ℕ → List (List ℕ) → Result Facts (ℕ × AsmKind)
-after_lines facts number [] = Ok facts
-after_lines facts number (line ∷ rest) = in_line number (after_line facts number line) >>= λ more. after_lines more (number + 1) rest
+abbrev pub after_lines : Facts → ℕ → List (List ℕ) → Result Facts (ℕ × AsmKind)
+after_lines facts number all = lines_taken after_line facts number all

@@ -1,8 +1,11 @@
 //! What accepted lines say that name labels, each with its line.
 
+ghost use Rattle.std.specs.Prelude.{◌≡◌};
+ghost use Rattle.micro_asm.specs.Earlier.{has_label};
+
 use crate::written_instruction::TargetNames;
 use cpe_slice::Fn7;
-use field_decl::{FieldValues, Name};
+use field_decl::{FieldValues, Name, Named, NamedTable};
 use mcu_chip::FlagCtl;
 use mcu_jumps::{Cell, Kind};
 
@@ -26,6 +29,17 @@ pub struct PinLine {
     pub cell: Cell,
 }
 
+impl Named for PinLine {
+    ghost name_of = { λ pin. pin.label };
+
+    fn name(&self) -> Name {
+        self.label.certified()
+    }
+}
+
+/// Pins in source order, no two of one label.
+pub type PinTable = NamedTable<PinLine>;
+
 /// An instruction whose targets are names.
 #[derive(Drop)]
 pub struct NamedInstr {
@@ -45,4 +59,22 @@ pub struct NamedInstr {
     pub kind: Kind,
     /// Where the outcomes lead, by name.
     pub targets: TargetNames,
+}
+
+impl Named for NamedInstr {
+    ghost name_of = { λ instr. instr.label };
+
+    fn name(&self) -> Name {
+        self.label.certified()
+    }
+}
+
+/// Instructions in source order, no two of one label.
+pub type InstrTable = NamedTable<NamedInstr>;
+
+/// Whether an instruction has this label.
+pub fn has_label(instrs: &InstrTable, label: &Name) -> bool
+    ensures { result ≡ has_label instrs.now label.now }
+{
+    instrs.has(label)
 }

@@ -7,9 +7,8 @@ ghost use Rattle.field_decl.specs.Results.{GivesKind, GivesText, RefusesAt};
 ghost use Rattle.flow_graph.specs.Graph.{graph_of};
 ghost use Rattle.micro_asm.specs.Source.{label_place, pin_of, instr_of, target_place, unknown_line, built, program_of};
 
-use crate::accepted_lines::{NamedInstr, PinLine, StartLine};
+use crate::accepted_lines::{InstrTable, NamedInstr, PinLine, StartLine};
 use crate::fault::AsmFault;
-use crate::instr_table::InstrTable;
 use crate::source_state::SourceState;
 use crate::unknown_labels::{first_line, unknown_pin, unknown_start, unknown_target};
 use field_decl::{AsmKind, Decl, FieldValues, Name};

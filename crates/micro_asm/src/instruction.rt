@@ -26,8 +26,6 @@ pub fn read_instruction(
     ensures label { IfOk result (λ instr. instr.label ≡ instruction.label) }
     ensures fits { IfOk result (IsNamedInstr (declaration_with slices decl.now)) }
 {
-    // A proof learns here that these bytes are a name.
-    let _text = instruction.label.as_slice();
     let fields = decl.fields();
     let settings = instruction.settings.as_slice();
     let (func, mask) = match operation_code(slices, decl.kbus(), &instruction.operation) {
@@ -45,7 +43,7 @@ pub fn read_instruction(
     let values = values_given(fields, settings);
     Ok(NamedInstr {
         line,
-        label: instruction.label,
+        label: instruction.label.certified(),
         func,
         mask,
         ctl,

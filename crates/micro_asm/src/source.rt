@@ -33,7 +33,7 @@ fn take_line(
 }
 
 // Takes all lines of a source.
-#[tactic(auto, unfolding(crate::specs::SourceSteps::after_lines))]
+#[tactic(auto, unfolding(field_decl::specs::LineByLine::lines_taken))]
 fn take_lines(alloc: Global, bytes: &[u8]) -> Result<SourceState, AsmFault>
     requires { length bytes.now < 2 ^ 32 }
     ensures { GivesText (λ state. state) result (after_lines (facts_of []) 1 (lines bytes.now)) }

@@ -7,10 +7,8 @@ ghost use Rattle.micro_asm.specs.Earlier.{facts_of};
 ghost use Rattle.micro_asm.specs.Judging.{is_late};
 ghost use Rattle.micro_asm.specs.SourceSteps.{after_source_line};
 
-use crate::accepted_lines::{PinLine, StartLine};
-use crate::instr_table::InstrTable;
+use crate::accepted_lines::{InstrTable, PinLine, PinTable, StartLine, has_label};
 use crate::instruction::read_instruction;
-use crate::pin_table::PinTable;
 use crate::source_line::SourceLine;
 use crate::written_instruction::WrittenInstr;
 use field_decl::{AsmKind, DeclState, Directive, LineFault, Name};
@@ -126,7 +124,7 @@ impl SourceState {
         let Some(slices) = self.decl.slices() else {
             return Err(LineFault::Kind(AsmKind::Slices));
         };
-        if self.instrs.has(&instruction.label) {
+        if has_label(&self.instrs, &instruction.label) {
             return Err(LineFault::Kind(AsmKind::LabelTwice));
         }
         if self.instrs.as_slice().len() >= INSTRUCTION_LIMIT {

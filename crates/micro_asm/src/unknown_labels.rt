@@ -5,8 +5,7 @@ ghost use Rattle.std.specs.List.{list_any};
 ghost use Rattle.micro_asm.specs.Earlier.{has_label};
 ghost use Rattle.micro_asm.specs.Source.{is_unknown, unknown_start, unknown_pin, unknown_target, first_line};
 
-use crate::accepted_lines::{NamedInstr, PinLine, StartLine};
-use crate::instr_table::InstrTable;
+use crate::accepted_lines::{InstrTable, NamedInstr, PinLine, StartLine, has_label};
 use field_decl::Name;
 
 // Whether a target is a label that no instruction has.
@@ -14,7 +13,7 @@ fn is_unknown(instrs: &InstrTable, target: &Option<Name>) -> bool
     ensures { result ≡ is_unknown instrs.now target.now }
 {
     match target {
-        Some(label) => !instrs.has(label),
+        Some(label) => !has_label(instrs, label),
         None => false,
     }
 }
@@ -23,7 +22,7 @@ fn is_unknown(instrs: &InstrTable, target: &Option<Name>) -> bool
 pub fn unknown_start(instrs: &InstrTable, start: &StartLine) -> Option<u32>
     ensures { result ≡ unknown_start instrs.now start.now }
 {
-    if instrs.has(&start.label) {
+    if has_label(instrs, &start.label) {
         None
     } else {
         Some(start.line)
@@ -35,7 +34,7 @@ pub fn unknown_pin(instrs: &InstrTable, pins: &[PinLine]) -> Option<u32>
     ensures { result ≡ unknown_pin instrs.now pins.now }
 {
     for pin in pins {
-        if !instrs.has(&pin.label) {
+        if !has_label(instrs, &pin.label) {
             return Some(pin.line);
         }
     }

@@ -3,7 +3,7 @@ use Rattle.std.proofs.Common.{ℕ, ◌≡◌, ◌≤◌, ◌<◌, ◌+◌, ◌-�
 use Rattle.std.proofs.lemmas.Nat.{mul-le}
 use Rattle.flow_graph.specs.Graph.{Graph}
 use Rattle.micro_asm.specs.Source.{source_of}
-use Rattle.micro_asm.proofs.FewInstructions.{few_instrs}
+use Rattle.micro_asm.proofs.FewInstrs.{few_instrs}
 use Rattle.placement_clauses.specs.Number.{var_count_of}
 use Rattle.micro_cli.specs.declared.command_words.TheConstants.{CONFLICT_LIMIT}
 

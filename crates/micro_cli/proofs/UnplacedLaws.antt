@@ -27,7 +27,7 @@ use Rattle.micro_cli.specs.Headline.{Writes, IsRefuted, IsUndecided}
 use Rattle.micro_cli.proofs.AcceptedInputs.{RefusesOrFails, inputs_status, source_unread, source_read, starts_accepted, starts_same}
 use Rattle.micro_cli.proofs.MakeOutcomes.{Start, Found, Refuted, Undecided, Outcome, lacks_inputs, lacks_memory, lacks_file, found, refuted, undecided, outcome_of, Wrote, ends_wrote}
 use Rattle.micro_cli.specs.declared.command_words.TheConstants.{CONFLICT_LIMIT}
-use Rattle.micro_asm.proofs.FewInstructions.{few_instrs}
+use Rattle.micro_asm.proofs.FewInstrs.{few_instrs}
 use Rattle.micro_cli.proofs.ShortRefutation.{short_refutation}
 use Rattle.micro_cli.proofs.AcceptedLemmas.{accepted}
 use Rattle.micro_cli.proofs.RunAfter.{RunsOrFails}

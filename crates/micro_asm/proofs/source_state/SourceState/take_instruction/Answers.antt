@@ -8,14 +8,14 @@ use Rattle.micro_asm.proofs.SoundLemmas.{sound_instr}
 use Rattle.micro_asm.proofs.source_state.SourceState.take_instruction.Goals as goal
 
 pub push-requires : goal.push-requires
-push-requires c = ap (has_label c.self.inside.instrs) c.in-Ok.ensures.label ∙ sym c.has.ensures ∙ c.if-has.false
+push-requires c = ap (has_label c.self.inside.instrs) c.in-Ok.ensures.label ∙ sym c.has_label.ensures ∙ c.if-has_label.false
 
 pub invariant_of-self-in-Ok : goal.invariant_of-self-in-Ok
 invariant_of-self-in-Ok c =
     let facts : Facts = facts_in c.self.inside in
     let instr : NamedInstr = c.in-Ok.instr in
-    let new : has_label facts.instrs instr.label ≡ false = ap (has_label facts.instrs) c.in-Ok.ensures.label ∙ sym c.has.ensures
-    ∙ c.if-has.false in
+    let new : has_label facts.instrs instr.label ≡ false = ap (has_label facts.instrs) c.in-Ok.ensures.label ∙ sym c.has_label.ensures
+    ∙ c.if-has_label.false in
     let few : length facts.instrs < 128 =
     subst (λ (instrs : List NamedInstr). length instrs < 128) c.as_slice.ensures c.if-as_slice-ge-INSTRUCTION_LIMIT.false in
     let fits : IsNamedInstr (declaration_so_far facts.declared) instr =

@@ -1,10 +1,15 @@
 -- An accepted source has at most 128 instructions.
 use Rattle.std.proofs.Common.{ℕ, ◌≡◌, ◌≤◌, ◌<◌, ◌+◌, Bool, true, false, List, [], ◌∷◌, ◌++◌, length, Option, None, Some, Result, Ok, Err, refl, sym, subst, arith, length-append}
+<<<<<<<< HEAD:crates/micro_asm/proofs/FewInstructions.antt
 use Rattle.std.specs.Prelude.{nat_le, nat_lt, is_some, ◌||◌, ◌==◌, if◌then◌else◌}
+========
+use Rattle.std.specs.Prelude.{IfOk, nat_le, nat_lt, is_some, ◌||◌, ◌==◌, if◌then◌else◌}
+>>>>>>>> 447697e5155fa55c6faf4fd4df5d107923bf45dd:crates/micro_asm/proofs/FewInstrs.antt
 use Rattle.std.proofs.lemmas.List.{length-map}
 use Rattle.std.proofs.lemmas.Bool.Decides.{nat_tests}
 use Rattle.std.proofs.lemmas.List.{append-nil}
 use Rattle.std.proofs.lemmas.List.Elements.{filter_map-append}
+use Rattle.std.proofs.lemmas.Result.{IfOk-weaker}
 use Rattle.micro_lex.specs.Lines.{lines}
 use Rattle.field_decl.specs.declared.fault.AsmKind.{AsmKind}
 use Rattle.field_decl.specs.declared.fault.AsmKind.TheVariants as kinds
@@ -12,9 +17,11 @@ use Rattle.field_decl.specs.declared.word.Word.{Word}
 use Rattle.field_decl.specs.declared.directive.Directive.{Directive}
 use Rattle.field_decl.specs.Judging.{refusal}
 use Rattle.field_decl.specs.Layout.{completed}
+use Rattle.field_decl.specs.LineByLine.{lines_read}
 use Rattle.field_decl.specs.Declaration.{Declaration}
 use Rattle.field_decl.specs.Results.{◌>>=◌, in_line, unless_refused}
 use Rattle.field_decl.specs.Words.{words_of}
+use Rattle.field_decl.proofs.LineByLine.{read_keeps}
 use Rattle.flow_graph.specs.Graph.{Graph}
 use Rattle.micro_asm.specs.declared.source_line.SourceLine.{SourceLine}
 use Rattle.micro_asm.specs.declared.source_line.SourceLine.TheVariants as source_lines
@@ -23,15 +30,14 @@ use Rattle.micro_asm.specs.declared.accepted_lines.StartLine.{StartLine}
 use Rattle.micro_asm.specs.declared.accepted_lines.NamedInstr.{NamedInstr}
 use Rattle.micro_asm.specs.Earlier.{Line, Nothing, Declares, Rows, Starts, Pins, Instructs, Facts, facts_of, with_line, has_label, is_pinned}
 use Rattle.micro_asm.specs.Judging.{judged, instruction_judged, instruction_read, instructs, is_late}
-use Rattle.micro_asm.specs.Source.{line_read, lines_read, program_of, source_of, instr_of, started, unknown_line, unless_unknown, built, ok_graph}
+use Rattle.micro_asm.specs.Source.{line_read, program_of, source_of, instr_of, started, unknown_line, unless_unknown, built, ok_graph}
 use Rattle.micro_asm.specs.SourceLines.{source_line_form}
 
 -- ---- one line
 
 -- with an accepted line there are at most 128 instructions
 abbrev FewWith : Facts → Result Line AsmKind → Type 0
-FewWith facts (Ok line) = length (with_line facts line).instrs ≤ 128
-FewWith facts (Err kind) = Unit {0}
+FewWith facts read = IfOk read (λ line. length (with_line facts line).instrs ≤ 128)
 
 few_if : (facts : Facts) (b : Bool) (kind : AsmKind) (read : Result Line AsmKind) → FewWith facts read
     → FewWith facts (if b then Err kind else read)
@@ -106,24 +112,15 @@ instrs_push earlier (Starts start) = simp (filter_map-append, append-nil)
 instrs_push earlier (Pins pin) = simp (filter_map-append, append-nil)
 instrs_push earlier (Instructs instr) = simp filter_map-append
 
--- what was read has at most 128 instructions
-abbrev FewRead : Result (List Line) (ℕ × AsmKind) → Type 0
-FewRead (Ok all) = length (facts_of all).instrs ≤ 128
-FewRead (Err fault) = Unit {0}
-
-few_next : (earlier : List Line) (number : ℕ) (rest : List (List ℕ)) (read : Result Line AsmKind)
-    → ((line : Line) → length (facts_of (earlier ++ line ∷ [])).instrs ≤ 128 → FewRead (lines_read (earlier ++ line ∷ []) rest))
-    → FewWith (facts_of earlier) read → FewRead (in_line number read >>= λ line. lines_read (earlier ++ line ∷ []) rest)
-few_next earlier number rest (Ok line) more few =
-    more line (subst (λ (instrs : List NamedInstr). length instrs ≤ 128) (sym (instrs_push earlier line)) few)
-few_next earlier number rest (Err kind) more few = tt
-
-few_lines : (rest : List (List ℕ)) (earlier : List Line) → length (facts_of earlier).instrs ≤ 128 → FewRead (lines_read earlier rest)
-unfolding lines_read
-few_lines [] earlier few = few
-few_lines (line ∷ rest) earlier few =
-    few_next earlier (length earlier + 1) rest (line_read earlier line) (λ read more. few_lines rest (earlier ++ read ∷ []) more)
-    (few_line earlier line few)
+-- all lines have at most 128 instructions
+few_lines : (all : List (List ℕ)) → IfOk (lines_read line_read [] all) (λ said. length (facts_of said).instrs ≤ 128)
+few_lines all =
+    read_keeps line_read (λ said. length (facts_of said).instrs ≤ 128)
+    (λ earlier line few. IfOk-weaker (line_read earlier line) (λ read. length (with_line (facts_of earlier) read).instrs ≤ 128)
+    (λ read. length (facts_of (earlier ++ read ∷ [])).instrs ≤ 128)
+    (λ read more. subst (λ (instrs : List NamedInstr). length instrs ≤ 128) (sym (instrs_push earlier read)) more)
+    (few_line earlier line few))
+    [] all (omega arith)
 
 -- ---- the program
 
@@ -154,10 +151,15 @@ unfolding program_of
 few_program facts few =
     few_given (length facts.instrs == 0) (0, kinds.Empty) (started facts facts.start) (few_started facts facts.start few)
 
-few_source : (read : Result (List Line) (ℕ × AsmKind)) → FewRead read → FewIn (read >>= λ all. program_of (facts_of all))
+few_source : (read : Result (List Line) (ℕ × AsmKind)) → IfOk read (λ said. length (facts_of said).instrs ≤ 128)
+    → FewIn (read >>= λ all. program_of (facts_of all))
 few_source (Ok all) few = few_program (facts_of all) few
 few_source (Err fault) few = tt
 
 -- an accepted source has at most 128 instructions
 pub few_instrs : (source : List ℕ) (g : Graph) → source_of source ≡ Ok g → length g.instrs ≤ 128
+<<<<<<<< HEAD:crates/micro_asm/proofs/FewInstructions.antt
 few_instrs source g meant = subst FewIn meant (few_source (lines_read [] (lines source)) (few_lines (lines source) [] (omega arith)))
+========
+few_instrs source g meant = subst FewIn meant (few_source (lines_read line_read [] (lines source)) (few_lines (lines source)))
+>>>>>>>> 447697e5155fa55c6faf4fd4df5d107923bf45dd:crates/micro_asm/proofs/FewInstrs.antt
