@@ -1,5 +1,5 @@
 -- The clauses of a program may be given.
-use Rattle.std.proofs.Common.{◌≡◌, ℕ, ◌-◌, ◌+◌, ◌*◌, ◌/◌, ◌<◌, ◌≤◌, ◌^◌, List, length, Some, arith}
+use Rattle.std.proofs.Common.{ℕ, ◌-◌, ◌*◌, ◌<◌, ◌≤◌, ◌^◌, length, arith}
 use Rattle.std.proofs.Math.Nat.{mul-le-mul}
 use Rattle.flow_graph.specs.Graph.{graph_of}
 use Rattle.flow_graph.specs.declared.programs.Program.{Program}

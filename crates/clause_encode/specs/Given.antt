@@ -1,5 +1,5 @@
 -- What a source of clauses means.
-use Rattle.std.specs.Prelude.{ℕ, ◌<◌, ◌^◌, List, length, All}
+use Rattle.std.specs.Prelude.{◌<◌, ◌^◌, length, All}
 use Rattle.clause_base.specs.Clauses.{Clauses, IsClause}
 
 -- each clause is one over the list's variables, so none holds a literal twice, and none has 2^32 literals or more

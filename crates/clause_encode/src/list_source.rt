@@ -1,5 +1,6 @@
 //! A list of clauses as a source.
-ghost use Rattle.std.specs.Prelude.{◌≡◌};
+ghost use Rattle.std.specs.Prelude.{◌≡◌, ◌<◌, ◌^◌};
+ghost use Rattle.clause_encode.specs.Given.{AreGivable};
 
 use crate::ClauseSource;
 use clause_base::{ClauseList, Lit};
@@ -11,7 +12,10 @@ use std::alloc::Global;
 #[derive(Drop)]
 pub struct ListSource<'a> {
     list: &'a ClauseList,
+    vars: u32,
     given: u128,
+    ghost over: { vars ≡ list.now.vars },
+    ghost givable: { AreGivable list.now },
 }
 
 impl<'a> ListSource<'a> {
@@ -19,8 +23,20 @@ impl<'a> ListSource<'a> {
     pub fn new(list: &'a ClauseList) -> ListSource<'a>
         ensures list { result.list.now ≡ list.now }
         ensures given { result.given ≡ 0 }
+        ensures few { list.now.vars < 2 ^ 31 }
     {
-        ListSource { list, given: 0 }
+        ListSource {
+            list,
+            vars: list.vars(),
+            given: 0,
+        }
+    }
+
+    /// How many literals were given.
+    pub fn given(&self) -> u128
+        ensures { result ≡ self.now.given }
+    {
+        self.given
     }
 }
 
@@ -30,7 +46,7 @@ impl ClauseSource for ListSource<'_> {
     ghost given = { λ source. source.given };
 
     fn vars(&self) -> u32 {
-        self.list.vars()
+        self.vars
     }
 
     fn len(&self) -> u32 {
@@ -38,7 +54,6 @@ impl ClauseSource for ListSource<'_> {
     }
 
     fn clause(&mut self, alloc: Global, number: u32) -> Result<SmallVec<Lit, 8>, OutOfMemory> {
-        let _vars = self.list.vars();
         let clause = SmallVec::from_slice(alloc, self.list.get(number))?;
         self.given += clause.len() as u128;
         Ok(clause)

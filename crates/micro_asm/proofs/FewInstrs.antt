@@ -1,10 +1,6 @@
 -- An accepted source has at most 128 instructions.
 use Rattle.std.proofs.Common.{ℕ, ◌≡◌, ◌≤◌, ◌<◌, ◌+◌, Bool, true, false, List, [], ◌∷◌, ◌++◌, length, Option, None, Some, Result, Ok, Err, refl, sym, subst, arith, length-append}
-<<<<<<<< HEAD:crates/micro_asm/proofs/FewInstructions.antt
-use Rattle.std.specs.Prelude.{nat_le, nat_lt, is_some, ◌||◌, ◌==◌, if◌then◌else◌}
-========
 use Rattle.std.specs.Prelude.{IfOk, nat_le, nat_lt, is_some, ◌||◌, ◌==◌, if◌then◌else◌}
->>>>>>>> 447697e5155fa55c6faf4fd4df5d107923bf45dd:crates/micro_asm/proofs/FewInstrs.antt
 use Rattle.std.proofs.lemmas.List.{length-map}
 use Rattle.std.proofs.lemmas.Bool.Decides.{nat_tests}
 use Rattle.std.proofs.lemmas.List.{append-nil}
@@ -158,8 +154,4 @@ few_source (Err fault) few = tt
 
 -- an accepted source has at most 128 instructions
 pub few_instrs : (source : List ℕ) (g : Graph) → source_of source ≡ Ok g → length g.instrs ≤ 128
-<<<<<<<< HEAD:crates/micro_asm/proofs/FewInstructions.antt
-few_instrs source g meant = subst FewIn meant (few_source (lines_read [] (lines source)) (few_lines (lines source) [] (omega arith)))
-========
 few_instrs source g meant = subst FewIn meant (few_source (lines_read line_read [] (lines source)) (few_lines (lines source)))
->>>>>>>> 447697e5155fa55c6faf4fd4df5d107923bf45dd:crates/micro_asm/proofs/FewInstrs.antt

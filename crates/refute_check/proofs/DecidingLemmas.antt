@@ -1,16 +1,16 @@
 -- What the bytes of a text decide, after its lines were judged.
-use Rattle.std.proofs.Common.{◌≡◌, ℕ, zero, suc, ℤ, ◌+◌, ◌<◌, ◌≤◌, Bool, true, false, List, [], ◌∷◌, ◌++◌, length, take, Option, Some, None, Result, Ok, Err, sym, ap, subst, ◌∙◌, arith}
+use Rattle.std.proofs.Common.{◌≡◌, ℕ, zero, suc, ℤ, ◌+◌, ◌≤◌, Bool, true, false, List, [], ◌∷◌, ◌++◌, length, take, Option, Some, None, refl, sym, ap, subst, ◌∙◌, arith}
 use Rattle.std.proofs.lemmas.List.{append-nil}
 use Rattle.std.proofs.lemmas.List.Sums.{sum_by-append}
 use Rattle.clause_base.specs.Clauses.{Clauses}
 use Rattle.ref_text.specs.declared.why.Why.{Why}
 use Rattle.refute_check.specs.Check.{Progress, lines_of, progress, has_begun, verdict_of, verdict, check}
 use Rattle.refute_check.specs.Cost.{line_cost, lines_cost}
-use Rattle.refute_check.specs.Judging.{Spot, at_start, further, Goes, Refuses, IsWithin, Judges}
+use Rattle.refute_check.specs.Judging.{Spot, at_start, further, Goes, Refuses, StopsIn, Judges}
 use Rattle.refute_check.specs.Taken.{refused_of, refusal, decided, line_count}
 use Rattle.refute_check.specs.declared.checked.Checked.{Checked}
 use Rattle.refute_check.specs.declared.checked.Checked.TheVariants as checked
-use Rattle.refute_check.proofs.JudgingLemmas.{HasNoLf, no_line, further_lines}
+use Rattle.refute_check.proofs.JudgingLemmas.{HasNoLf, no_line, further_lines, goes_refuses, goes_stops, stops_here}
 
 -- before the first line the list has just its clauses
 start_is : (list : Clauses) (lines : List (List ℕ)) → further list at_start lines ≡ progress list 0 false lines
@@ -55,14 +55,39 @@ front_cost clauses (x ∷ xs) ys (suc k) le =
     let b = sum_by-append (line_cost clauses) (x ∷ []) (take k (xs ++ ys)) in
     omega (arith, rest, a, b)
 
--- what was given where lines were gone through
-pub goes_asks : (list : Clauses) (before now : ℕ) (bytes : List ℕ) (spot : Spot) → Goes list at_start before bytes spot now
-    → IsWithin list.clauses at_start before bytes now
-goes_asks list before now bytes spot g more =
-    let sum = sum_by-append (line_cost list.clauses) g.lines (lines_of (spot.begun ++ more)) in
-    subst (λ (ls : List (List ℕ)). now ≤ before + lines_cost list.clauses ls) (sym (g.cut more)) (omega (arith, sum, g.within))
+-- the cost of fewer lines
+take_cost : (clauses : List (List ℤ)) (lines : List (List ℕ)) (n k : ℕ) → n ≤ k
+    → lines_cost clauses (take n lines) ≤ lines_cost clauses (take k lines)
+take_cost clauses lines zero k le = omega arith
+take_cost clauses lines (suc n) zero le = absurd (omega arith)
+take_cost clauses [] (suc n) (suc k) le = omega arith
+take_cost clauses (l ∷ ls) (suc n) (suc k) le =
+    let rest = take_cost clauses ls n k (omega arith) in
+    let a = sum_by-append (line_cost clauses) (l ∷ []) (take n ls) in
+    let b = sum_by-append (line_cost clauses) (l ∷ []) (take k ls) in
+    omega (arith, rest, a, b)
 
--- the same up to an answer behind these lines
+-- nothing was asked for behind the lines that were gone through
+pub goes_stop : (list : Clauses) (before now : ℕ) (bytes : List ℕ) (spot : Spot) → Goes list at_start before bytes spot now
+    → StopsIn list at_start before bytes now
+goes_stop list before now bytes spot g =
+    subst (λ (bs : List ℕ). StopsIn list at_start before bs now) (append-nil bytes)
+    (goes_stops list at_start spot before now now bytes [] g (stops_here list spot now now [] refl))
+
+-- what was given where a fault came
+pub stops_asks : (list : Clauses) (before now : ℕ) (bytes : List ℕ) → StopsIn list at_start before bytes now →
+    now ≤ before + lines_cost list.clauses (take ((progress list 0 false (lines_of bytes)).count + 1) (lines_of bytes))
+stops_asks list before now bytes r =
+    let all : lines_of (bytes ++ []) ≡ lines_of bytes = ap lines_of (append-nil bytes) in
+    let p : Progress = progress list 0 false (lines_of bytes) in
+    let count : (further list at_start (lines_of (bytes ++ []))).count ≡ p.count =
+    ap (λ (q : Progress). q.count) (start_is list (lines_of (bytes ++ [])) ∙ ap (progress list 0 false) all) in
+    let reached : 0 + r.lines ≤ (further list at_start (lines_of (bytes ++ []))).count = r.reached [] in
+    let cost = take_cost list.clauses (lines_of (bytes ++ [])) (r.lines + 1) (p.count + 1) (omega (arith, count, reached)) in
+    subst (λ (ls : List (List ℕ)). now ≤ before + lines_cost list.clauses (take (p.count + 1) ls)) all
+    (omega (arith, r.within [], cost))
+
+-- what was given up to an answer behind the lines that were gone through
 pub goes_up_to : (list : Clauses) (before now k : ℕ) (bytes : List ℕ) (spot : Spot) → Goes list at_start before bytes spot now
     → length spot.derived ≤ k → (more : List ℕ) → now ≤ before + lines_cost list.clauses (take k (lines_of (bytes ++ more)))
 goes_up_to list before now k bytes spot g le more =
@@ -96,12 +121,6 @@ asked_end list before now bytes spot answer g is =
 pub undecided : (list : Clauses) (before now : ℕ) (bytes : List ℕ) (spot : Spot) → HasNoLf spot.begun
     → Goes list at_start before bytes spot now → refusal (progress list 0 false (lines_of bytes)) ≡ None
 undecided list before now bytes spot none g = ap refusal (ends list before now bytes spot none g)
-
--- what was given for all lines that are begun
-pub asked_all : (list : Clauses) (before now : ℕ) (bytes : List ℕ) → IsWithin list.clauses at_start before bytes now
-    → now ≤ before + lines_cost list.clauses (lines_of bytes)
-asked_all list before now bytes le =
-    subst (λ (bs : List ℕ). now ≤ before + lines_cost list.clauses (lines_of bs)) (append-nil bytes) (le [])
 
 -- the answer at a line that is refused
 pub decided_bad : (list : Clauses) (before now n : ℕ) (bytes : List ℕ) (why : Why) (longer : Bool)
@@ -139,16 +158,11 @@ end_facts list start b before now bytes answer is goes none told =
     let g : Goes list at_start before bytes b now = subst (λ (s : Spot). Goes list s before bytes b now) is goes in
     (decided_end list before now bytes b answer none g told, asked_end list before now bytes b answer g told)
 
--- where a text goes on behind its bytes
-pub long_facts : (list : Clauses) (start b : Spot) (before now : ℕ) (bytes : List ℕ) → start ≡ at_start
-    → Goes list start before bytes b now → HasNoLf b.begun →
-    (refusal (progress list 0 false (lines_of bytes)) ≡ None) × (now ≤ before + lines_cost list.clauses (lines_of bytes))
-long_facts list start b before now bytes is goes none =
-    let g : Goes list at_start before bytes b now = subst (λ (s : Spot). Goes list s before bytes b now) is goes in
-    (undecided list before now bytes b none g, asked_all list before now bytes (goes_asks list before now bytes b g))
-
--- where memory was refused
-pub fail_facts : (list : Clauses) (start : Spot) (before now : ℕ) (bytes : List ℕ) → start ≡ at_start
-    → IsWithin list.clauses start before bytes now → now ≤ before + lines_cost list.clauses (lines_of bytes)
-fail_facts list start before now bytes is le =
-    asked_all list before now bytes (subst (λ (s : Spot). IsWithin list.clauses s before bytes now) is le)
+-- a line that is refused behind bytes that were gone through
+pub judged_bad : (list : Clauses) (m b : Spot) (before mid now : ℕ) (bytes piece : List ℕ) (why : Why)
+    → Goes list at_start before bytes m mid → Judges list m mid piece (Some why) b now
+    → Refuses list at_start before (bytes ++ piece) why (length b.derived) now
+judged_bad list m b before mid now bytes piece why g j =
+    let n : length g.lines + j.0 ≡ length b.derived = omega (arith, g.counted, j.1) in
+    subst (λ (k : ℕ). Refuses list at_start before (bytes ++ piece) why k now) n
+    (goes_refuses list at_start m before mid now j.0 bytes piece why g j.2)

@@ -1,7 +1,6 @@
 -- How the judging of a text goes on, piece by piece and line by line.
-use Rattle.std.proofs.Common.{◌≡◌, ℕ, zero, suc, ℤ, ◌+◌, ◌-◌, ◌<◌, ◌≤◌, ◌==◌, Bool, true, false, not, List, [], ◌∷◌, ◌++◌, length, take, drop, get_or, Option, Some, None, Result, Ok, Err, refl, sym, ap, subst, ◌∙◌, arith, append_assoc, length-append}
+use Rattle.std.proofs.Common.{◌≡◌, ℕ, zero, suc, ℤ, ◌+◌, ◌-◌, ◌<◌, ◌≤◌, ◌==◌, Bool, false, List, [], ◌∷◌, ◌++◌, length, take, drop, get_or, Option, Some, None, Result, Ok, Err, refl, sym, ap, subst, ◌∙◌, arith, append_assoc, length-append}
 use Rattle.std.specs.Prelude.{All, OnErr}
-use Rattle.std.specs.List.{sum_by}
 use Rattle.std.proofs.lemmas.List.{get_or-take, length-take-le, length-drop, take_all, take_more, take-append-drop}
 use Rattle.std.proofs.lemmas.List.Elements.{All-append}
 use Rattle.std.proofs.lemmas.List.Splits.{slice_split_none, slice_split_at, length-slice_split}
@@ -14,7 +13,7 @@ use Rattle.ref_text.specs.declared.why.Why.{Why}
 use Rattle.refute_check.specs.Check.{Progress, lines_of, line_fault, with_line, or_further, progress}
 use Rattle.refute_check.specs.Cost.{line_cost, lines_cost}
 use Rattle.refute_check.specs.Known.{with_derived}
-use Rattle.refute_check.specs.Judging.{Spot, further, fault_at, Goes, Refuses, IsWithin, first_line, Brings}
+use Rattle.refute_check.specs.Judging.{Spot, further, fault_at, Goes, Refuses, StopsIn, first_line, Brings}
 use Rattle.refute_check.specs.declared.judge.NextLine.{NextLine}
 use Rattle.refute_check.specs.declared.judge.NextLine.TheVariants as next
 
@@ -203,24 +202,65 @@ goes_refuses list a m given mid now n xs ys why g r = record {
     same more = ap (further list a) (goes_cut list a m given mid xs ys more g)
         ∙ further_lines list a given xs m mid g (m.begun ++ (ys ++ more))
 
--- the cost of one line is within that of a text that has it
-pub line_within : (clauses : List (List ℤ)) (old : Spot) (given now : ℕ) (piece : List ℕ) → HasNoLf old.begun
-    → lf_at piece < length piece →
-    now ≤ given + line_cost clauses (first_line old piece) → IsWithin clauses old given piece now
-line_within clauses old given now piece none lt le more =
-    let rest = lines_of (drop (lf_at piece + 1) piece ++ more) in
-    let sum = sum_by-append (line_cost clauses) (first_line old piece ∷ []) rest in
-    subst (λ (ls : List (List ℕ)). now ≤ given + lines_cost clauses ls) (sym (line_first old.begun piece more none lt))
-    (omega (arith, sum, le))
+-- the lines that are counted stay counted
+count_stays : (list : Clauses) (count : ℕ) (over : Bool) (parts : List (List ℕ)) → count ≤ (progress list count over parts).count
+unfolding progress
+count_stays list count over [] = omega arith
+count_stays list count over (rest ∷ []) = omega arith
+count_stays list count over (line ∷ (next ∷ parts)) = by (line_fault list over line)
+    (count_stays (with_line list (line_of (form line))) (count + 1) (is_empty (line_of (form line))) (next ∷ parts))
+  where
+    further_part : Progress
+    further_part = progress (with_line list (line_of (form line))) (count + 1) (is_empty (line_of (form line))) (next ∷ parts)
 
--- what was given for bytes behind others
-pub goes_within : (list : Clauses) (a m : Spot) (given mid now : ℕ) (xs ys : List ℕ) → Goes list a given xs m mid
-    → IsWithin list.clauses m mid ys now → IsWithin list.clauses a given (xs ++ ys) now
-goes_within list a m given mid now xs ys g le more =
-    let ls = lines_of (m.begun ++ (ys ++ more)) in
-    let sum = sum_by-append (line_cost list.clauses) g.lines ls in
-    subst (λ (ks : List (List ℕ)). now ≤ given + lines_cost list.clauses ks) (sym (goes_cut list a m given mid xs ys more g))
-    (omega (arith, sum, g.within, le more))
+    by : (o : Option Why) → count + 1 ≤ further_part.count → count ≤ (or_further count over o further_part).count
+    by (Some why) le = omega arith
+    by None le = omega (arith, le)
+
+-- the lines that are derived already are reached
+none_more : (list : Clauses) (old : Spot) (lines : List (List ℕ)) → length old.derived + 0 ≤ (further list old lines).count
+none_more list old lines =
+    let le : length old.derived ≤ (further list old lines).count =
+    count_stays (with_derived list old.derived) (length old.derived) old.over lines in
+    omega (arith, le)
+
+-- memory was refused before anything more was given
+pub stops_here : (list : Clauses) (old : Spot) (given now : ℕ) (piece : List ℕ) → now ≡ given → StopsIn list old given piece now
+stops_here list old given now piece same = record {
+  lines = 0;
+  reached = λ more. none_more list old (lines_of (old.begun ++ (piece ++ more)));
+  within = λ more. omega (arith, same);
+}
+
+-- memory was refused while the next line was judged
+pub stops_line : (list : Clauses) (old : Spot) (given now : ℕ) (piece : List ℕ) → HasNoLf old.begun → lf_at piece < length piece →
+    now ≤ given + line_cost list.clauses (first_line old piece) → StopsIn list old given piece now
+stops_line list old given now piece none lt le = record {
+  lines = 0;
+  reached = λ more. none_more list old (lines_of (old.begun ++ (piece ++ more)));
+  within = λ more. subst (λ (ls : List (List ℕ)). now ≤ given + lines_cost list.clauses (take 1 ls))
+      (sym (line_first old.begun piece more none lt)) (omega (arith, le));
+}
+
+-- memory was refused in bytes behind others
+pub goes_stops : (list : Clauses) (a m : Spot) (given mid now : ℕ) (xs ys : List ℕ) → Goes list a given xs m mid
+    → StopsIn list m mid ys now → StopsIn list a given (xs ++ ys) now
+goes_stops list a m given mid now xs ys g r = record {
+  lines = length g.lines + r.lines;
+  reached = λ more.
+      let same : (further list a (lines_of (a.begun ++ ((xs ++ ys) ++ more)))).count
+      ≡ (further list m (lines_of (m.begun ++ (ys ++ more)))).count =
+      ap (λ (ls : List (List ℕ)). (further list a ls).count) (goes_cut list a m given mid xs ys more g)
+      ∙ ap (λ (p : Progress). p.count) (further_lines list a given xs m mid g (m.begun ++ (ys ++ more))) in
+      let behind : length m.derived + r.lines ≤ (further list m (lines_of (m.begun ++ (ys ++ more)))).count = r.reached more in
+      omega (arith, same, behind, g.counted);
+  within = λ more.
+      let ls = lines_of (m.begun ++ (ys ++ more)) in
+      let sum = sum_by-append (line_cost list.clauses) g.lines (take (r.lines + 1) ls) in
+      let front : take (length g.lines + r.lines + 1) (lines_of (a.begun ++ ((xs ++ ys) ++ more))) ≡ g.lines ++ take (r.lines + 1) ls =
+      ap (take (length g.lines + r.lines + 1)) (goes_cut list a m given mid xs ys more g) ∙ take_front g.lines ls r.lines in
+      subst (λ (ks : List (List ℕ)). now ≤ given + lines_cost list.clauses ks) (sym front) (omega (arith, sum, g.within, r.within more));
+}
 
 -- what holds is said of an error too
 pub on_err : {A E : Type 0} (P : Type 0) (r : Result A E) → P → OnErr r P
@@ -283,7 +323,7 @@ take_bad list start m b given mid now at piece why none g r =
 
 -- memory was refused at the next line of a piece
 pub take_fail : (list : Clauses) (start m : Spot) (given mid now at : ℕ) (piece : List ℕ) → Goes list start given (take at piece) m mid
-    → IsWithin list.clauses m mid (drop at piece) now → IsWithin list.clauses start given piece now
-take_fail list start m given mid now at piece g le =
-    subst (λ (bs : List ℕ). IsWithin list.clauses start given bs now) (take-append-drop at piece)
-    (goes_within list start m given mid now (take at piece) (drop at piece) g le)
+    → StopsIn list m mid (drop at piece) now → StopsIn list start given piece now
+take_fail list start m given mid now at piece g stops =
+    subst (λ (bs : List ℕ). StopsIn list start given bs now) (take-append-drop at piece)
+    (goes_stops list start m given mid now (take at piece) (drop at piece) g stops)

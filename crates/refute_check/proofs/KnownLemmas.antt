@@ -1,9 +1,7 @@
 -- The clauses of a source as they become known.
-use Rattle.std.proofs.Common.{◌≡◌, ◌≢◌, ℕ, zero, suc, ℤ, ◌+◌, ◌-◌, ◌<◌, ◌≤◌, inl, inr, List, [], ◌∷◌, ◌++◌, length, map, take, get_or, set, Option, Some, None, refl, sym, ap, subst, ◌∙◌, arith}
-use Rattle.std.specs.Prelude.{slice_get, slice_set, slice_index, All}
-use Rattle.std.proofs.lemmas.Bool.{cases_eq}
+use Rattle.std.proofs.Common.{◌≡◌, ◌≢◌, ℕ, zero, suc, ℤ, ◌+◌, ◌-◌, ◌<◌, ◌≤◌, List, [], ◌∷◌, ◌++◌, length, map, take, get_or, set, Option, Some, None, refl, sym, ap, subst, ◌∙◌, arith}
+use Rattle.std.specs.Prelude.{slice_get, slice_index, All}
 use Rattle.clause_base.proofs.ListLemmas.{All-append_left, All-append_right}
-use Rattle.ref_text.specs.declared.why.Why.{Why}
 use Rattle.refute_check.specs.Hints.{look_on, clause_at, held_with, held_by, held_after, judged_last, judged}
 use Rattle.refute_check.specs.Known.{or_nothing, kept_at}
 use Rattle.refute_check.specs.declared.derivation.ClauseStatus.TheVariants.{False}
@@ -44,17 +42,6 @@ pub set_there : (asked : List (Option (List ℤ))) (m : ℕ) (c : Option (List �
 set_there [] m c lt = absurd (omega arith)
 set_there (a ∷ more) zero c lt = refl
 set_there (a ∷ more) (suc m) c lt = set_there more m c (omega arith)
-
--- what was asked for is the list's after one clause more
-pub told_more : (asked : List (Option (List ℤ))) (list : List (List ℤ)) (m : ℕ) (c : List ℤ) → slice_get list m ≡ Some c →
-    ((n : ℕ) (d : List ℤ) → slice_get asked n ≡ Some (Some d) → slice_get list n ≡ Some d) →
-    (n : ℕ) (d : List ℤ) → slice_get (set asked m (Some c)) n ≡ Some (Some d) → slice_get list n ≡ Some d
-told_more [] list m c there told n d at = cc
-told_more (a ∷ more) [] m c there told n d at = cc
-told_more (a ∷ more) (x ∷ xs) zero c there told zero d at = let same : c ≡ d = cc in there ∙ ap Some same
-told_more (a ∷ more) (x ∷ xs) zero c there told (suc n) d at = told (suc n) d at
-told_more (a ∷ more) (x ∷ xs) (suc m) c there told zero d at = told 0 d at
-told_more (a ∷ more) (x ∷ xs) (suc m) c there told (suc n) d at = told_more more xs m c there (λ k e h. told (suc k) e h) n d at
 
 -- where nothing is known, nothing else is told
 pub told_none : (asked : List (Option (List ℤ))) (list : List (List ℤ)) → All (λ c. c ≡ None) asked →
@@ -130,14 +117,6 @@ table_push (p ∷ ps) asked c (suc m) place within is =
     ∙ ap (λ (os : List (Option (List ℤ))). kept_at asked p ∷ os)
     (table_push ps asked c m place (λ k d lt. within (suc k) d (omega arith)) is)
 
-pub within_push : (places : List ℕ) (n m place : ℕ) → All (λ p. p ≤ n) places → place ≡ n + 1 → All (λ p. p ≤ n + 1) (set places m place)
-within_push [] n m place within is k d lt = absurd (omega arith)
-within_push (p ∷ ps) n zero place within is zero d lt = omega arith
-within_push (p ∷ ps) n zero place within is (suc k) d lt = let le = within (suc k) d (omega arith) in omega (arith, le)
-within_push (p ∷ ps) n (suc m) place within is zero d lt = let le = within 0 d (omega arith) in omega (arith, le)
-within_push (p ∷ ps) n (suc m) place within is (suc k) d lt =
-    within_push ps n m place (λ j e h. within (suc j) e (omega arith)) is k d (omega arith)
-
 -- a clause in the table
 pub table_front : (places : List ℕ) (asked derived : List (List ℤ)) (k : ℕ) → k < length places →
     get_or (map or_nothing (map (kept_at asked) places) ++ derived) k [] ≡ or_nothing (kept_at asked (get_or places k 0))
@@ -152,20 +131,3 @@ table_back [] asked derived k le = ap (λ (n : ℕ). get_or derived n []) (omega
 table_back (p ∷ ps) asked derived zero le = absurd (omega arith)
 table_back (p ∷ ps) asked derived (suc k) le = table_back ps asked derived k (omega arith)
     ∙ ap (λ (n : ℕ). get_or derived n []) (omega arith)
-
-pub table_asked : (places : List ℕ) (asked : List (List ℤ)) (k : ℕ) → k < length places
-    → slice_get (map (kept_at asked) places) k ≡ Some (kept_at asked (get_or places k 0))
-table_asked [] asked k lt = absurd (omega arith)
-table_asked (p ∷ ps) asked zero lt = refl
-table_asked (p ∷ ps) asked (suc k) lt = table_asked ps asked k (omega arith)
-
--- a place above 0 has a clause
-pub kept_some : (asked : List (List ℤ)) (place : ℕ) → place ≢ 0 → place ≤ length asked
-    → kept_at asked place ≡ Some (or_nothing (kept_at asked place))
-kept_some asked zero some le = absurd (some refl)
-kept_some asked (suc place) some le = there asked place (omega arith)
-  where
-    there : (xs : List (List ℤ)) (k : ℕ) → k < length xs → slice_get xs k ≡ Some (or_nothing (slice_get xs k))
-    there [] k lt = absurd (omega arith)
-    there (x ∷ xs) zero lt = refl
-    there (x ∷ xs) (suc k) lt = there xs k (omega arith)

@@ -11,6 +11,7 @@ pub mod CheckLemmas
 pub mod VerdictLemmas
 pub mod TakenLemmas
 pub mod DecidingLemmas
+pub mod AnswerLemmas
 pub mod RefutationLaws
 pub mod PrintedLemmas
 pub mod SizeLemmas

@@ -1,5 +1,5 @@
 -- What a piece brings to a judge.
-use Rattle.std.proofs.Common.{◌≡◌, ℕ, ℤ, ◌+◌, ◌-◌, ◌*◌, ◌<◌, ◌≤◌, ◌^◌, ◌==◌, Bool, false, List, [], ◌∷◌, ◌++◌, length, map, neg_ℤ, take, Option, Some, None, refl, sym, ap, subst, ◌∙◌, arith, length-append}
+use Rattle.std.proofs.Common.{◌≡◌, ℕ, ℤ, ◌+◌, ◌-◌, ◌<◌, ◌≤◌, ◌^◌, ◌==◌, Bool, false, List, [], ◌∷◌, ◌++◌, length, take, None, sym, ap, subst, ◌∙◌, arith, length-append}
 use Rattle.std.specs.Prelude.{All}
 use Rattle.std.proofs.lemmas.List.Elements.{All-append, All-nil}
 use Rattle.clause_base.specs.Clauses.{Clauses}
@@ -8,33 +8,17 @@ use Rattle.ref_text.specs.Form.{form}
 use Rattle.ref_text.specs.Fault.{text_fault, line_of, is_empty}
 use Rattle.ref_text.specs.Fits.{IsRight}
 use Rattle.ref_text.specs.Reading.{Reader, first, lf_at, with_line, with_bytes}
-use Rattle.ref_text.specs.declared.why.Why.{Why}
-use Rattle.ref_text.specs.declared.events.Event.TheVariants as event
 use Rattle.ref_text.proofs.RightLemmas.{text_right}
-use Rattle.refute_check.specs.Check.{or_hints}
-use Rattle.refute_check.specs.Hints.{judged}
-use Rattle.refute_check.specs.Known.{Known, IsKnown, with_derived}
+use Rattle.refute_check.specs.Known.{Known, IsKnown}
 use Rattle.refute_check.specs.Held.{Held}
-use Rattle.refute_check.specs.Judging.{Spot, spot_of, fault_at, first_line, Stands}
+use Rattle.refute_check.specs.Judging.{spot_of, first_line, Stands}
 use Rattle.refute_check.specs.declared.judge.Judge.{Judge}
-use Rattle.refute_check.proofs.FedLemmas.{Feeds}
 use Rattle.refute_check.proofs.KnownLemmas.{told_none}
 use Rattle.refute_check.proofs.JudgingLemmas.{HasNoLf, all_no_lf}
 
 -- a judge of these parts
 abbrev pub judge_of : Known → Held → Reader → Bool → Judge
 judge_of known signs reader over = record { known = known; signs = signs; reader = reader; over = over }
-
--- the reader's answer for a text is that of the list
-text_same : (list : Clauses) (j : Judge) (given : ℕ) (line : List ℕ) → Stands list j given →
-    text_fault (length (list.clauses ++ j.known.derived) + 1)
-    list.vars j.over line ≡ text_fault j.reader.number j.reader.vars j.reader.over line
-text_same list j given line s =
-    let number : length (list.clauses ++ j.known.derived) + 1 ≡ j.reader.number =
-    omega (arith, length-append list.clauses j.known.derived, s.number) in
-    ap (λ (n : ℕ). text_fault n list.vars j.over line) number
-    ∙ ap (λ (v : ℕ). text_fault j.reader.number v j.over line) (sym s.vars)
-    ∙ ap (λ (o : Bool). text_fault j.reader.number j.reader.vars o line) (sym s.over_is)
 
 -- bytes of a line
 pub stands_more : (list : Clauses) (j : Judge) (given : ℕ) (r : Reader) (piece : List ℕ) → Stands list j given
@@ -53,27 +37,6 @@ stands_more list j given r piece s all is = record {
   no_lf = subst (λ (bs : List ℕ). HasNoLf bs) (sym (ap (λ (x : Reader). x.begun) is))
       (All-append (λ b. (b == 10) ≡ false) j.reader.begun piece s.no_lf (all_no_lf piece all));
 }
-
--- a line that its text refuses
-pub fault_text : (list : Clauses) (j : Judge) (given : ℕ) (piece : List ℕ) (why : Why) → Stands list j given →
-    text_fault j.reader.number j.reader.vars j.reader.over (j.reader.begun ++ take (lf_at piece) piece) ≡ Some why
-    → fault_at list (spot_of j) (first_line (spot_of j) piece) ≡ Some why
-fault_text list j given piece why s is =
-    ap (or_hints (with_derived list j.known.derived) (line_of (form (first_line (spot_of j) piece))))
-    (text_same list j given (first_line (spot_of j) piece) s ∙ is)
-
--- a line of right text is judged by its hints
-pub fault_hints : (list : Clauses) (j : Judge) (given : ℕ) (piece : List ℕ) (bad : Option Why) (clause : List ℤ) (hints : List ℕ)
-    → Stands list j given →
-    text_fault j.reader.number j.reader.vars j.reader.over (j.reader.begun ++ take (lf_at piece) piece) ≡ None →
-    record { clause = clause; hints = hints } ≡ line_of (form (first_line (spot_of j) piece)) →
-    bad ≡ judged (list.clauses ++ j.known.derived) (map neg_ℤ clause) hints
-    → fault_at list (spot_of j) (first_line (spot_of j) piece) ≡ bad
-fault_hints list j given piece bad clause hints s right is judged_is =
-    ap (or_hints (with_derived list j.known.derived) (line_of (form (first_line (spot_of j) piece))))
-    (text_same list j given (first_line (spot_of j) piece) s ∙ right)
-    ∙ ap (λ (l : Line). judged (list.clauses ++ j.known.derived) (map neg_ℤ l.clause) l.hints) (sym is)
-    ∙ sym judged_is
 
 -- the line that a reader gives
 pub line_given : (r new : Reader) (line : List ℕ) (clause : List ℤ) (hints : List ℕ) → new ≡ with_line r (line_of (form line))

@@ -1,7 +1,7 @@
 -- How many literals of a source's clauses the lines of a text may ask for: for each hint that names a clause of the
 -- source, the literals of that clause. A hint that names an earlier line asks for none.
 
-use Rattle.std.specs.Prelude.{ℕ, ℤ, ◌+◌, List, length}
+use Rattle.std.specs.Prelude.{ℕ, ℤ, List, length}
 use Rattle.std.specs.List.{sum_by}
 use Rattle.ref_text.specs.Form.{form}
 use Rattle.ref_text.specs.Fault.{line_of}

@@ -64,9 +64,12 @@ pub record Refuses (list : Clauses) (old : Spot) (given : ℕ) (bytes : List ℕ
   pub bad : (more : List ℕ) → (further list old (lines_of (old.begun ++ (bytes ++ more)))).bad ≡ Some why
   pub within : (more : List ℕ) → now ≤ given + lines_cost list.clauses (take (lines + 1) (lines_of (old.begun ++ (bytes ++ more))))
 
--- at most the cost of the lines that are begun in these bytes was given
-abbrev pub IsWithin : List (List ℤ) → Spot → ℕ → List ℕ → ℕ → Type 0
-IsWithin clauses old given bytes now = (more : List ℕ) → now ≤ given + lines_cost clauses (lines_of (old.begun ++ (bytes ++ more)))
+-- memory was refused in these bytes: whatever follows, so many lines are derived, and at most their cost and that of the
+-- next line was given
+pub record StopsIn (list : Clauses) (old : Spot) (given : ℕ) (bytes : List ℕ) (now : ℕ) : Type 0 where
+  pub lines : ℕ
+  pub reached : (more : List ℕ) → length old.derived + lines ≤ (further list old (lines_of (old.begun ++ (bytes ++ more)))).count
+  pub within : (more : List ℕ) → now ≤ given + lines_cost list.clauses (take (lines + 1) (lines_of (old.begun ++ (bytes ++ more))))
 
 -- the line that ends at the first LF of a piece
 abbrev pub first_line : Spot → List ℕ → List ℕ

@@ -34,7 +34,7 @@ abbrev pub with_derived : Clauses → List (List ℤ) → Clauses
 with_derived list derived = record { vars = list.vars; clauses = list.clauses ++ derived }
 
 -- what is known of a source's list, where so many literals were given: each clause that was asked for is the list's, and
--- each was given once
+-- so few were asked for that `given` stays far below the end of a source's count
 pub record IsKnown (list : Clauses) (known : Known) (given : ℕ) : Type 0 where
   pub vars : known.vars ≡ list.vars
   pub sized : length known.asked ≡ length list.clauses

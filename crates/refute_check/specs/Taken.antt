@@ -1,7 +1,8 @@
 -- The first bytes of a file, up to a limit, and what they decide.
 
-use Rattle.std.specs.Prelude.{ℕ, ℤ, ◌+◌, ◌⊎◌, ◌<◌, ◌≤◌, ◌≡◌, Bool, true, false, if◌then◌else◌, IsTrue, nat_le, List, length, take, Option, Some, None, Result, Ok, Err}
+use Rattle.std.specs.Prelude.{ℕ, ◌+◌, ◌≤◌, ◌≡◌, Bool, true, false, if◌then◌else◌, IsTrue, nat_le, List, [], length, take, Option, Some, None, Result, Ok, Err}
 use Rattle.clause_base.specs.Clauses.{Clauses}
+use Rattle.io_base.specs.Causes.{counted}
 use Rattle.io_base.specs.Loading.{TookMore}
 use Rattle.io_base.specs.Shelf.{ShelfState, CountsTaken}
 use Rattle.ref_text.specs.declared.why.Why.{Why}
@@ -12,22 +13,10 @@ use Rattle.refute_check.specs.declared.checked.Checked.TheVariants as checked
 use Rattle.refute_check.specs.declared.checked.CheckFault.{CheckFault}
 use Rattle.refute_check.specs.declared.checked.CheckFault.TheVariants as fault
 
--- what a shelf that tells its files says of bytes that were taken: the whole file, or its front where it is longer
-abbrev pub IsFront : Option (List ℕ) → ℕ → List ℕ → Bool → Type 0
-IsFront None limit bytes longer = ⊥
-IsFront (Some file) limit bytes false = file ≡ bytes
-IsFront (Some file) limit bytes true = (limit < length file) × (bytes ≡ take limit file)
-
 -- just these bytes were taken, or more than the limit, and these are as many as the limit
 abbrev pub HasTaken : ℕ → ShelfState → ShelfState → List ℕ → Bool → Type 0
 HasTaken limit old new bytes false = CountsTaken old new (length bytes)
 HasTaken limit old new bytes true = (length bytes ≡ limit) × TookMore old new limit
-
--- bytes of a file that were taken between two states of a shelf, up to a limit, and whether there are more
-pub record IsTaken (old new : ShelfState) (name : List ℕ) (limit : ℕ) (bytes : List ℕ) (longer : Bool) : Type 0 where
-  pub fits : length bytes ≤ limit
-  pub told : IsTrue old.tells → IsFront (old.file name) limit bytes longer
-  pub cause : HasTaken limit old new bytes longer
 
 -- the refusal of the next line, where there is a reason
 abbrev pub refused_of : ℕ → Option Why → Option Checked
@@ -76,15 +65,31 @@ line_count (checked.Refutes count) = count
 line_count (checked.Rejected count why) = count
 line_count (checked.Derived count) = count
 
--- the lines up to the one of the answer; at a fault all that were begun
-abbrev pub lines_up_to : Result Checked CheckFault → List (List ℕ) → List (List ℕ)
-lines_up_to (Ok answer) lines = take (line_count answer) lines
-lines_up_to (Err fault) lines = lines
+-- the lines that may have been judged: those up to the one of the answer; at a fault those that are derived, and the next
+abbrev pub lines_up_to : Clauses → Result Checked CheckFault → List (List ℕ) → List (List ℕ)
+lines_up_to list (Ok answer) lines = take (line_count answer) lines
+lines_up_to list (Err fault) lines = take ((progress list 0 false lines).count + 1) lines
 
--- of these clauses a source gave nothing, or at most those that hints name in the lines of the bytes that were taken, up
--- to the line in which the answer or the fault came
-abbrev pub AsksWithin : ℕ → List (List ℤ) → ShelfState → ShelfState → List ℕ → ℕ → ℕ → Result Checked CheckFault → Type 0
-AsksWithin limit clauses old new name before after result =
-    (after ≡ before)
-    ⊎ ((bytes : List ℕ) × (longer : Bool) × IsTaken old new name limit bytes longer
-    × (after ≤ before + lines_cost clauses (lines_up_to result (lines_of bytes))))
+-- the bytes at the front of a file; none where the name is not there
+abbrev pub IsFront : Option (List ℕ) → List ℕ → Type 0
+IsFront None bytes = bytes ≡ []
+IsFront (Some file) bytes = take (length bytes) file ≡ bytes
+
+-- just so many bytes were taken, or more than the limit, and these are as many as the limit
+abbrev pub HasGiven : ℕ → ShelfState → ShelfState → List ℕ → Bool → Type 0
+HasGiven limit old new bytes false = new.taken ≡ counted old.taken (length bytes)
+HasGiven limit old new bytes true = (length bytes ≡ limit) × TookMore old new limit
+
+-- bytes of a file that were taken between two states of a shelf, up to a limit, and whether more were; where the shelf
+-- tells its files they are the front of the file, at a fault too
+pub record IsTaken (old new : ShelfState) (name : List ℕ) (limit : ℕ) (bytes : List ℕ) (longer : Bool) : Type 0 where
+  pub fits : length bytes ≤ limit
+  pub told : IsTrue old.tells → IsFront (old.file name) bytes
+  pub cause : HasGiven limit old new bytes longer
+
+-- a source of these clauses gave at most those that hints name in the lines of the bytes that were taken, up to the line in
+-- which the answer or the fault came
+abbrev pub AsksWithin : ℕ → Clauses → ShelfState → ShelfState → List ℕ → ℕ → ℕ → Result Checked CheckFault → Type 0
+AsksWithin limit list old new name before after result =
+    (bytes : List ℕ) × (longer : Bool) × IsTaken old new name limit bytes longer
+    × (after ≤ before + lines_cost list.clauses (lines_up_to list result (lines_of bytes)))

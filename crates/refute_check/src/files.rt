@@ -1,30 +1,29 @@
 //! Checks the file of a refutation.
 
-ghost use Rattle.std.specs.Prelude.{ℕ, ◌≡◌, ◌≤◌, ◌<◌, ◌+◌, ◌-◌, ◌^◌, Bool, List, length, IsTrue, IfOk, IsErrOf, Some, None, true, ◌⊎◌};
+ghost use Rattle.std.specs.Prelude.{ℕ, ◌≡◌, ◌≤◌, ◌<◌, ◌+◌, ◌-◌, ◌^◌, Bool, List, length, IsTrue, IfOk, IsErrOf, ◌⊎◌};
 ghost use Rattle.io_base.specs.Causes.{Rose};
-ghost use Rattle.io_base.specs.Shelf.{GoesOn};
+ghost use Rattle.io_base.specs.Shelf.{GoesOn, CountsNoChange};
 ghost use Rattle.io_base.specs.Loading.{TookMore};
 ghost use Rattle.mcu_jumps.specs.Position.{Position};
 ghost use Rattle.flow_graph.specs.Graph.{graph_of};
 ghost use Rattle.place_model.specs.Legal.{IsLegal};
 ghost use Rattle.clause_base.specs.TruthValues.{AllHold};
 ghost use Rattle.clause_encode.specs.PlacementList.{list_of};
-ghost use Rattle.refute_check.specs.Judging.{spot_of, at_start, Stands};
-ghost use Rattle.refute_check.specs.Taken.{AsksWithin, Explains, IsOfBytes, decided, lines_up_to};
-ghost use Rattle.refute_check.specs.Check.{lines_of};
-ghost use Rattle.refute_check.specs.Cost.{lines_cost};
+ghost use Rattle.refute_check.specs.Taken.{AsksWithin, Explains, IsOfBytes};
 ghost use Rattle.refute_check.specs.declared.checked.Checked.TheVariants as checked;
 
 use crate::judge::Judge;
-use crate::taking::{Taken, take_file};
 use crate::{CheckFault, Checked};
 use clause_encode::{ClauseSource, ProgramSource};
 use flow_graph::Program;
-use io_base::{NAME_LIMIT, Shelf};
+use io_base::{Failed, NAME_LIMIT, Shelf};
 use std::alloc::Global;
 
 /// How many bytes of a refutation are read: 2^43.
 pub const REFUTATION_LIMIT: u64 = 1 << 43;
+
+/// How many bytes are read at a time.
+const PIECE: usize = 4096;
 
 /// Checks the file `name` as a refutation of a program's placement clauses.
 ///
@@ -68,20 +67,20 @@ pub fn check_ref<S: Shelf>(
     ensures at_most { (S.state shelf.new).taken ≤ (S.state shelf.old).taken + REFUTATION_LIMIT + 1 }
     ensures kept { IsErrOf result CheckFault.Failed
         ⊎ ((S.state shelf.new).last_failed ≡ (S.state shelf.old).last_failed) }
+    ensures calm { IsErrOf result CheckFault.Failed
+        ⊎ ((S.state shelf.new).faults ≡ (S.state shelf.old).faults) }
+    ensures no_change { CountsNoChange (S.state shelf.old) (S.state shelf.new) }
     ensures same { (S.state shelf.new).file ≡ (S.state shelf.old).file }
     ensures goes_on { GoesOn (S.state shelf.old) (S.state shelf.new) }
 {
     let mut source = ProgramSource::new(program);
-    if source.len() == u32::MAX {
-        return Err(CheckFault::OutOfMemory);
-    }
     check_lines(alloc, &mut source, shelf, name)
 }
 
 /// Checks the file `name` as a refutation of a source's clauses.
 ///
 /// The answers and their causes are those of `check_ref`. The source is asked for just the clauses that hints name, for
-/// each at most once.
+/// each at most once. Of the file a piece and the present line are kept, and of the lines before it their literals.
 pub fn check_lines<S: Shelf, P: ClauseSource>(
     alloc: Global,
     source: &mut P,
@@ -102,7 +101,7 @@ pub fn check_lines<S: Shelf, P: ClauseSource>(
         Explains ((S.state shelf.old).file name.now) REFUTATION_LIMIT (P.list source.old) result }
 
     // What the source gave.
-    ensures asks { AsksWithin REFUTATION_LIMIT (P.list source.old).clauses (S.state shelf.old) (S.state shelf.new) name.now (P.given source.old) (P.given source.new) result }
+    ensures asks { AsksWithin REFUTATION_LIMIT (P.list source.old) (S.state shelf.old) (S.state shelf.new) name.now (P.given source.old) (P.given source.new) result }
     ensures list { P.list source.new ≡ P.list source.old }
 
     // What holds over every shelf.
@@ -126,61 +125,33 @@ pub fn check_lines<S: Shelf, P: ClauseSource>(
     ensures at_most { (S.state shelf.new).taken ≤ (S.state shelf.old).taken + REFUTATION_LIMIT + 1 }
     ensures kept { IsErrOf result CheckFault.Failed
         ⊎ ((S.state shelf.new).last_failed ≡ (S.state shelf.old).last_failed) }
+    ensures calm { IsErrOf result CheckFault.Failed
+        ⊎ ((S.state shelf.new).faults ≡ (S.state shelf.old).faults) }
+    ensures no_change { CountsNoChange (S.state shelf.old) (S.state shelf.new) }
     ensures same { (S.state shelf.new).file ≡ (S.state shelf.old).file }
     ensures goes_on { GoesOn (S.state shelf.old) (S.state shelf.new) }
 {
-    let taken = take_file(alloc, shelf, name, REFUTATION_LIMIT)?;
-    decide(alloc, source, &taken)
-}
-
-// What the first bytes of a file decide.
-fn decide<P: ClauseSource>(
-    alloc: Global,
-    source: &mut P,
-    taken: &Taken,
-) -> Result<Checked, CheckFault>
-    requires given { P.given source.old < 2 ^ 64 }
-    requires len { length (P.list source.old).clauses < 2 ^ 32 - 1 }
-    requires vars { (P.list source.old).vars < 2 ^ 31 }
-    ensures list { P.list source.new ≡ P.list source.old }
-    ensures told { IfOk result (λ answer. decided (P.list source.old) taken.now.bytes.items taken.now.longer ≡ Some answer) }
-    ensures asks { P.given source.new ≤ P.given source.old + lines_cost (P.list source.old).clauses (lines_up_to result (lines_of taken.now.bytes.items)) }
-    ensures too_long { IsErrOf result CheckFault.TooLong →
-        (taken.now.longer ≡ true) × (decided (P.list source.old) taken.now.bytes.items taken.now.longer ≡ None) }
-    ensures no_fault { IsErrOf result CheckFault.Failed → ⊥ }
-    ensures no_absence { IsErrOf result CheckFault.NoFile → ⊥ }
-{
-    match Judge::new(alloc, source) {
-        Err(_) => Err(CheckFault::OutOfMemory),
-        Ok(judge) => decide_by(alloc, source, judge, taken),
-    }
-}
-
-// The same by a judge before the first byte.
-fn decide_by<P: ClauseSource>(
-    alloc: Global,
-    source: &mut P,
-    mut judge: Judge,
-    taken: &Taken,
-) -> Result<Checked, CheckFault>
-    requires stands { Stands (P.list source.old) judge (P.given source.old) }
-    requires start { spot_of judge ≡ at_start }
-    ensures list { P.list source.new ≡ P.list source.old }
-    ensures told { IfOk result (λ answer. decided (P.list source.old) taken.now.bytes.items taken.now.longer ≡ Some answer) }
-    ensures asks { P.given source.new ≤ P.given source.old + lines_cost (P.list source.old).clauses (lines_up_to result (lines_of taken.now.bytes.items)) }
-    ensures too_long { IsErrOf result CheckFault.TooLong →
-        (taken.now.longer ≡ true) × (decided (P.list source.old) taken.now.bytes.items taken.now.longer ≡ None) }
-    ensures no_fault { IsErrOf result CheckFault.Failed → ⊥ }
-    ensures no_absence { IsErrOf result CheckFault.NoFile → ⊥ }
-{
-    match judge.take(alloc, source, &taken.bytes) {
-        Err(_) => Err(CheckFault::OutOfMemory),
-        Ok(Some(why)) => Ok(Checked::Rejected(judge.lines() + 1, why)),
-        Ok(None) => {
-            if taken.longer {
-                Err(CheckFault::TooLong)
-            } else {
-                Ok(judge.verdict())
+    let Ok(mut judge) = Judge::new(alloc, source) else {
+        return Err(CheckFault::OutOfMemory);
+    };
+    let mut buf = [0u8; PIECE];
+    let mut at = 0;
+    'pieces: loop {
+        let left = REFUTATION_LIMIT - at;
+        let room = (left + 1).min(PIECE as u64) as usize;
+        let piece = &mut buf[..room];
+        match shelf.read_at(name, at, piece) {
+            Err(Failed) => return Err(CheckFault::Failed),
+            Ok(None) => return Err(CheckFault::NoFile),
+            Ok(Some(0)) => return Ok(judge.verdict()),
+            Ok(Some(count)) => {
+                let within = left.min(count as u64) as usize;
+                match judge.take(alloc, source, &piece[..within]) {
+                    Err(_) => return Err(CheckFault::OutOfMemory),
+                    Ok(Some(why)) => return Ok(Checked::Rejected(judge.lines() + 1, why)),
+                    Ok(None) if within < count => return Err(CheckFault::TooLong),
+                    Ok(None) => at += count as u64,
+                }
             }
         }
     }

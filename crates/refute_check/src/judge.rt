@@ -7,7 +7,7 @@ ghost use Rattle.refute_check.specs.Known.{IsKnown};
 ghost use Rattle.refute_check.specs.Check as spec;
 ghost use Rattle.refute_check.specs.Check.{has_begun};
 ghost use Rattle.refute_check.specs.Cost.{hints_cost};
-ghost use Rattle.refute_check.specs.Judging.{spot_of, at_start, further, Stands, Brings, IsWithin, Judges, StandsAfter, StandsOn};
+ghost use Rattle.refute_check.specs.Judging.{spot_of, at_start, further, Stands, Brings, StopsIn, Judges, StandsAfter, StandsOn};
 
 use crate::asking::ask_all;
 use crate::checked::Checked;
@@ -74,7 +74,7 @@ impl Judge {
         ensures list { P.list source.new ≡ P.list source.old }
         ensures stands { IfOk result (λ bad. StandsAfter (P.list source.old) bad self.new (P.given source.new)) }
         ensures judges { IfOk result (λ bad. Judges (P.list source.old) (spot_of self.old) (P.given source.old) piece.now bad (spot_of self.new) (P.given source.new)) }
-        ensures fails { OnErr result (IsWithin (P.list source.old).clauses (spot_of self.old) (P.given source.old) piece.now (P.given source.new)) }
+        ensures fails { OnErr result (StopsIn (P.list source.old) (spot_of self.old) (P.given source.old) piece.now (P.given source.new)) }
     {
         let mut at = 0;
         'lines: loop {
@@ -120,7 +120,7 @@ impl Judge {
         ensures list { P.list source.new ≡ P.list source.old }
         ensures stands { IfOk result (λ next. StandsOn (P.list source.old) next self.new (P.given source.new)) }
         ensures brings { IfOk result (λ next. Brings (P.list source.old) (spot_of self.old) (P.given source.old) rest.now next (spot_of self.new) (P.given source.new)) }
-        ensures fails { OnErr result (IsWithin (P.list source.old).clauses (spot_of self.old) (P.given source.old) rest.now (P.given source.new)) }
+        ensures fails { OnErr result (StopsIn (P.list source.old) (spot_of self.old) (P.given source.old) rest.now (P.given source.new)) }
     {
         let fed = self.reader.feed(rest)?;
         match fed.event {

@@ -5,7 +5,11 @@
 //! the clauses and all lines before it. A list of clauses that a text refutes is made true by no truth values; so
 //! where the answer is that a text refutes a program's clauses, no placement is legal.
 //!
-//! Contracts: `check_ref`, `check_bytes`, `refuting_text_is_a_refutation`.
+//! A file is read in pieces, and its lines are judged as they come. A source of clauses gives at most the literals that
+//! hints name, up to the line of the answer or the fault.
+//!
+//! Contracts: `check_ref`, `check_lines`, `check_bytes`, `refuting_text_is_a_refutation`,
+//! `printed_refutations_are_taken`, `refutation_texts_are_short`.
 #![tactic(auto)]
 
 mod asking;
@@ -17,7 +21,6 @@ mod known_clauses;
 mod laws;
 mod lines;
 mod signs;
-mod taking;
 
 pub use checked::{CheckFault, Checked};
 pub use files::{check_lines, check_ref};

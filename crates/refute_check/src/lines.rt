@@ -19,7 +19,6 @@ pub fn check_bytes(alloc: Global, list: ClauseList, bytes: &[u8]) -> Result<Chec
     ensures refuted { IfOk result (λ answer. (k : ℕ) → answer ≡ checked.Refutes k →
         (values : ℕ → Bool) → AllHold values list.clauses → ⊥) }
 {
-    let _vars = list.vars();
     let mut source = ListSource::new(&list);
     let mut judge = Judge::new(alloc, &source)?;
     match judge.take(alloc, &mut source, bytes)? {

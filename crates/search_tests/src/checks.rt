@@ -13,7 +13,7 @@ use std::test::Fail;
 // is [-83, -84].
 
 /// A text, and how it is judged.
-const TEXTS: [(&[u8], Checked); 26] = [
+pub const TEXTS: [(&[u8], Checked); 26] = [
     (b"", Checked::Derived(0)),
     (b"1434 0 1286 1319 1367 1146 0\n", Checked::Refutes(1)),
     (b"1434 83 0 1286 1319 0\n", Checked::Derived(1)),
@@ -98,7 +98,8 @@ fn texts_are_judged(rt: HostRuntime) -> Result<(), Fail> {
     Ok(())
 }
 
-/// The files are read in this order, and the seventh read fails.
+/// The files are read in this order, and the sixth read fails, at the end of the last. Behind a line that is refused
+/// nothing is read.
 const FILES: [(&str, Result<Checked, CheckFault>); 4] = [
     ("right", Ok(Checked::Refutes(1))),
     ("wrong", Ok(Checked::Rejected(1, Why::NotFalse))),
@@ -111,7 +112,7 @@ fn shelf_of(alloc: Global) -> Result<MemShelf, OutOfMemory> {
     let mut shelf = MemShelf::new(alloc);
     shelf.put_file("right", b"1434 0 1286 1319 1367 1146 0\n")?;
     shelf.put_file("wrong", b"1434 0 1286 1319 1367 0\n")?;
-    shelf.fail(CallKind::Read, 7)?;
+    shelf.fail(CallKind::Read, 6)?;
     Ok(shelf)
 }
 

@@ -3,7 +3,7 @@ use crate::lists::is_clause;
 use crate::model_tables::placed;
 use crate::programs::{ONE_INSTRUCTION, ONE_LABEL_TWICE, program_of};
 use clause_base::Truths;
-use clause_encode::{clause_at, clause_count, encode, var_count};
+use clause_encode::{ClauseSource, ProgramSource, clause_at, clause_count, encode, var_count};
 use flow_graph::Program;
 use io_base::OutOfMemory;
 use mcu_jumps::Cell;
@@ -74,6 +74,22 @@ fn is_numbered(alloc: Global, program: &Program) -> Result<bool, OutOfMemory> {
     Ok(true)
 }
 
+// Whether each clause of the list is that which a source of the program gives, first of all and after another.
+fn is_given(alloc: Global, program: &Program) -> Result<bool, OutOfMemory> {
+    let list = encode(alloc, program)?;
+    for place in 0..list.len() {
+        let mut source = ProgramSource::new(program);
+        let first = source.clause(alloc, place + 1)?;
+        let again = source.clause(alloc, list.len() - place)?;
+        if first.as_slice() != list.get(place + 1)
+            || again.as_slice() != list.get(list.len() - place)
+        {
+            return Ok(false);
+        }
+    }
+    Ok(true)
+}
+
 /// A source, how many variables it has, and how many clauses.
 const SOURCES: [(&[u8], u32, u32); 4] = [
     (ONE_LABEL_TWICE, 103, 1433),
@@ -88,6 +104,7 @@ fn each_clause_by_its_number(rt: HostRuntime) -> Result<(), Fail> {
         let program = program_of(rt.alloc(), source).ok_or("a program")?;
         assert!(rt; has_counts(&program, *vars, *clauses));
         assert!(rt; is_numbered(rt.alloc(), &program)?);
+        assert!(rt; is_given(rt.alloc(), &program)?);
     }
     Ok(())
 }

@@ -8,6 +8,8 @@ mod boards;
 #[cfg(test)]
 mod checks;
 #[cfg(test)]
+mod checks_in_pieces;
+#[cfg(test)]
 mod clause_laws;
 #[cfg(test)]
 mod clause_lists;

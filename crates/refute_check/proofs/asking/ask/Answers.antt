@@ -1,5 +1,4 @@
-use Rattle.std.proofs.Common.{◌≡◌, ◌∙◌, ◌-◌, ℤ, List, Some, ap, sym, subst, arith}
-use Rattle.refute_check.specs.Known.{Known}
+use Rattle.std.proofs.Common.{◌∙◌, ◌-◌, ℤ, List, ap, arith}
 use Rattle.refute_check.proofs.AskLemmas.{with_asked, ask_agrees, ask_keeps, need_not_ask, cost_is}
 use Rattle.refute_check.proofs.asking.ask.Goals as goal
 

@@ -1,4 +1,4 @@
-use Rattle.std.proofs.Common.{◌≡◌, ◌+◌, ◌≤◌, drop, take, length}
+use Rattle.std.proofs.Common.{◌≡◌, ◌+◌, ◌≤◌, drop, take}
 use Rattle.std.specs.Prelude.{All}
 use Rattle.refute_check.specs.Known.{IsKnown, Agrees}
 use Rattle.refute_check.specs.Cost.{hints_cost}

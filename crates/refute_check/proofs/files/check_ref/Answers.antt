@@ -1,4 +1,4 @@
-use Rattle.std.proofs.Common.{◌≡◌, ◌∙◌, ◌<◌, ◌^◌, ℕ, Bool, List, IsTrue, length, ap, sym, subst, arith}
+use Rattle.std.proofs.Common.{◌≡◌, ◌<◌, ◌-◌, ◌^◌, ℕ, Bool, List, IsTrue, length, sym, subst, arith}
 use Rattle.mcu_jumps.specs.Position.{Position}
 use Rattle.flow_graph.specs.Graph.{graph_of}
 use Rattle.flow_graph.specs.declared.programs.Program.{Program}
@@ -13,6 +13,11 @@ use Rattle.refute_check.specs.declared.checked.Checked.{Checked}
 use Rattle.refute_check.specs.declared.checked.Checked.TheVariants as checked
 use Rattle.refute_check.proofs.DeriveLemmas.{each_answer}
 use Rattle.refute_check.proofs.files.check_ref.Goals as goal
+
+pub check_lines-requires-clause-len : goal.check_lines-requires-clause-len
+check_lines-requires-clause-len g c =
+    subst (λ (p : Program). length (list_of (graph_of p)).clauses < 2 ^ 32 - 1) (sym c.new-source.ensures.program)
+    (omega (arith, c.new-source.ensures.few))
 
 pub check_lines-requires-clause-vars : goal.check_lines-requires-clause-vars
 check_lines-requires-clause-vars g c =

@@ -1,4 +1,4 @@
-use Rattle.std.proofs.Common.{◌≡◌, ◌∙◌, ◌+◌, ℕ, false, List, Option, Some, None, length, sym, ap, subst}
+use Rattle.std.proofs.Common.{◌≡◌, ◌∙◌, ◌+◌, ℕ, false, List, Option, Some, length, sym, ap, subst}
 use Rattle.clause_base.specs.Clauses.{Clauses}
 use Rattle.ref_text.specs.declared.why.Why.{Why}
 use Rattle.refute_check.specs.Check.{check}

@@ -1,12 +1,11 @@
-use Rattle.std.proofs.Common.{◌≡◌, ◌∙◌, ◌+◌, ◌≤◌, ℕ, List, ap, subst, arith}
+use Rattle.std.proofs.Common.{◌∙◌, ◌+◌, ◌≤◌, refl, ap, subst}
 use Rattle.clause_base.specs.declared.line.Line.{Line}
 use Rattle.ref_text.specs.Fault.{is_empty}
-use Rattle.ref_text.specs.declared.events.Event.{Event}
 use Rattle.ref_text.specs.declared.events.Event.TheVariants as event
 use Rattle.refute_check.specs.Cost.{hints_cost, line_cost}
 use Rattle.refute_check.specs.Judging.{spot_of, first_line}
 use Rattle.refute_check.proofs.FedLemmas.{Feeds, feeds}
-use Rattle.refute_check.proofs.JudgingLemmas.{line_within, on_err}
+use Rattle.refute_check.proofs.JudgingLemmas.{stops_here, stops_line, on_err}
 use Rattle.refute_check.proofs.NextLemmas.{stands_more, line_given, line_right, stands_line}
 use Rattle.refute_check.proofs.judge.Judge.next_line.Goals as goal
 
@@ -26,19 +25,24 @@ pub returns-in_err-why-in-Line-clause-fails : goal.returns-in_err-why-in-Line-cl
 returns-in_err-why-in-Line-clause-fails g c =
     let s = c.requires.stands in
     let r = c.args.self.now.reader in
-    let clauses = (g.P.ClauseSource.list c.args.source.now).clauses in
+    let list = g.P.ClauseSource.list c.args.source.now in
     let line = first_line (spot_of c.args.self.now) c.args.rest.now in
     let f : Feeds r c.args.rest.now c.feed.new.self c.in_ok-fed.fed.used event.Line =
     subst (Feeds r c.args.rest.now c.feed.new.self c.in_ok-fed.fed.used) c.in-Line.is
     (feeds r c.feed.new.self c.args.rest.now c.in_ok-fed.fed s.bad c.in_ok-fed.ensures.fed c.in_ok-fed.ensures.reader) in
     let given = line_given r c.feed.new.self line c.clause-clause.result.now c.hints-hints.result.now f.3 c.clause-clause.ensures
     c.hints-hints.ensures in
-    let le : g.P.ClauseSource.given c.judge_line.new.source ≤ g.P.ClauseSource.given c.args.source.now + line_cost clauses line =
+    let le : g.P.ClauseSource.given c.judge_line.new.source ≤ g.P.ClauseSource.given c.args.source.now + line_cost list.clauses line =
     subst (λ (l : Line).
-    g.P.ClauseSource.given c.judge_line.new.source ≤ g.P.ClauseSource.given c.args.source.now + hints_cost clauses l.hints)
+    g.P.ClauseSource.given c.judge_line.new.source ≤ g.P.ClauseSource.given c.args.source.now + hints_cost list.clauses l.hints)
     given c.judge_line.ensures.given in
-    on_err _ _ (line_within clauses (spot_of c.args.self.now) (g.P.ClauseSource.given c.args.source.now)
+    on_err _ _ (stops_line list (spot_of c.args.self.now) (g.P.ClauseSource.given c.args.source.now)
     (g.P.ClauseSource.given c.judge_line.new.source) c.args.rest.now s.no_lf f.0 le)
+
+pub returns-in_err-fed-clause-fails : goal.returns-in_err-fed-clause-fails
+returns-in_err-fed-clause-fails g c =
+    on_err _ _ (stops_here (g.P.ClauseSource.list c.args.source.now) (spot_of c.args.self.now) (g.P.ClauseSource.given c.args.source.now)
+    (g.P.ClauseSource.given c.args.source.now) c.args.rest.now refl)
 
 pub returns-in-More-clause-stands : goal.returns-in-More-clause-stands
 returns-in-More-clause-stands g c =

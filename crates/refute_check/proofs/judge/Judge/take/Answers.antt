@@ -1,7 +1,6 @@
-use Rattle.std.proofs.Common.{◌≡◌, ◌∙◌, ◌+◌, ◌≤◌, ◌-◌, ℕ, List, length, take, drop, refl, ap, subst, arith, length-drop}
-use Rattle.std.proofs.lemmas.List.{take_all}
+use Rattle.std.proofs.Common.{◌∙◌, ℕ, List, drop, refl, subst, arith}
 use Rattle.clause_base.specs.Clauses.{Clauses}
-use Rattle.refute_check.specs.Judging.{spot_of, Stands, StandsOn, Brings, IsWithin}
+use Rattle.refute_check.specs.Judging.{spot_of, Stands, StandsOn, Brings, StopsIn}
 use Rattle.refute_check.specs.declared.judge.NextLine.{NextLine}
 use Rattle.refute_check.specs.declared.judge.NextLine.TheVariants as next
 use Rattle.refute_check.proofs.JudgingLemmas.{goes_nowhere, at_rest, take_line, take_end, take_bad, take_fail, on_err}
@@ -79,10 +78,10 @@ returns-in_err-next_line-clause-fails g c =
     let l = c.lines in
     let list = g.P.ClauseSource.list c.args.source.now in
     let given = g.P.ClauseSource.given in
-    let le : IsWithin list.clauses (spot_of l.self) (given l.source) (drop l.at c.args.piece.now) (given c.next_line.new.source) =
-    at_rest (λ (cs : Clauses) (bs : List ℕ) (x : NextLine). IsWithin cs.clauses (spot_of l.self) (given l.source) bs
+    let stops : StopsIn list (spot_of l.self) (given l.source) (drop l.at c.args.piece.now) (given c.next_line.new.source) =
+    at_rest (λ (cs : Clauses) (bs : List ℕ) (x : NextLine). StopsIn cs (spot_of l.self) (given l.source) bs
     (given c.next_line.new.source))
     (g.P.ClauseSource.list l.source)
     list l.at c.args.piece.now next.End next.End l.invariant.list refl c.in_err-next_line.ensures.fails in
     on_err _ _ (take_fail list (spot_of c.args.self.now) (spot_of l.self) (given c.args.source.now) (given l.source)
-    (given c.next_line.new.source) l.at c.args.piece.now l.invariant.goes le)
+    (given c.next_line.new.source) l.at c.args.piece.now l.invariant.goes stops)

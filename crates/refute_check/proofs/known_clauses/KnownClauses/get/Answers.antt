@@ -1,4 +1,4 @@
-use Rattle.std.proofs.Common.{◌≡◌, zero, suc, ◌∷◌, ◌-◌, ◌+◌, ◌∙◌, ◌<◌, ◌≤◌, ℕ, ℤ, List, [], Some, length, get_or, ap, sym, arith}
+use Rattle.std.proofs.Common.{◌≡◌, zero, suc, ◌∷◌, ◌-◌, ◌∙◌, ◌<◌, ◌≤◌, ℕ, List, [], length, get_or, ap, sym, arith}
 use Rattle.std.specs.Prelude.{slice_get}
 use Rattle.std.proofs.lemmas.Option.{get_or_from_slice_get}
 use Rattle.refute_check.specs.Known.{Known, known_clauses, or_nothing, kept_at}

@@ -1,7 +1,5 @@
-use Rattle.std.proofs.Common.{◌≡◌, ◌-◌, ◌+◌, ◌≤◌, ◌∙◌, ℕ, ℤ, List, Option, length, length-append, ap, sym, arith}
-use Rattle.std.specs.Prelude.{slice_set, Some}
+use Rattle.std.proofs.Common.{◌≡◌, ◌-◌, ◌+◌, ◌∙◌, length, length-append, ap, sym}
 use Rattle.clause_base.specs.Clauses.{Clauses}
-use Rattle.refute_check.specs.Known.{Known}
 use Rattle.refute_check.proofs.KnownLemmas.{table_push}
 use Rattle.refute_check.proofs.known_clauses.KnownClauses.keep.Goals as goal
 
