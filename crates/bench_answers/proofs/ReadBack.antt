@@ -36,6 +36,7 @@ use Rattle.prom_files.specs.WordsStep.{HasWords, HasJoined, WordsReply}
 use Rattle.prom_files.proofs.ImageSteps.{AreHad, images_had}
 use Rattle.replies.specs.FileStep.{HasFile, FileReply, NoFile, TooLong, CannotRead}
 use Rattle.replies.specs.declared.status.Status.{Status}
+use Rattle.bench_answers.specs.RunOrder.{RunOrder}
 use Rattle.bench_answers.specs.PlacedFiles.{PlacesFiles}
 use Rattle.bench_answers.specs.ReadingBack.{IsPlacedRun, ShiftOrRun, WordsBack, BackReply, CannotReadBack}
 use Rattle.bench_answers.specs.Placed.{AreSaved}
@@ -221,19 +222,19 @@ words_read out decl read words had images old new declares fit are stands has =
 -- ---- the reply
 
 -- words without a bad shift are run, under a script that is read
-run_back : (out script bytes : List ℕ) (clocks : ℕ) (decl : Declaration) (words : List ℕ) (said : BusScript) (s : Status) (text : List ℕ)
-    → HasNoBadShift words decl → script_of decl.slices bytes ≡ Ok said
-    → WordsBack out script bytes clocks decl words s text → IsPlacedRun decl words said clocks s text
-run_back out script bytes clocks decl words said s text unmasked meant (inl refused) =
-    absurd (not_both (script_of decl.slices bytes) said (refused.line, refused.kind) meant refused.meant)
-run_back out script bytes clocks decl words said s text unmasked meant (inr (other, other_meant, run)) = go run
+run_back : (order : RunOrder) (decl : Declaration) (words : List ℕ) (said : BusScript) (s : Status) (text : List ℕ)
+    → HasNoBadShift words decl → script_of decl.slices order.bytes ≡ Ok said
+    → WordsBack order decl words s text → IsPlacedRun decl words said order.clocks s text
+run_back order decl words said s text unmasked meant (inl refused) =
+    absurd (not_both (script_of decl.slices order.bytes) said (refused.line, refused.kind) meant refused.meant)
+run_back order decl words said s text unmasked meant (inr (other, other_meant, run)) = go run
   where
     same : other ≡ said
-    same = one_value (script_of decl.slices bytes) other said other_meant meant
+    same = one_value (script_of decl.slices order.bytes) other said other_meant meant
 
-    go : ShiftOrRun out decl words other clocks s text → IsPlacedRun decl words said clocks s text
+    go : ShiftOrRun order.out decl words other order.clocks s text → IsPlacedRun decl words said order.clocks s text
     go (inl masked) = absurd (masked.first.masked.1 (unmasked masked.cell masked.first.in_matrix masked.first.masked.0))
-    go (inr run) = let P : BusScript → Type 0 = λ x. IsPlacedRun decl words x clocks s text in subst P same run
+    go (inr run) = let P : BusScript → Type 0 = λ x. IsPlacedRun decl words x order.clocks s text in subst P same run
 
 -- the files of a placement stand where they were saved
 stand : (out : List ℕ) (g : Graph) (place : List Position) (files : List SavedFile) (old new : ShelfState) → IsTold old
@@ -253,18 +254,18 @@ stand out g place files old new told placed all = record {
         → slice_get (map image_text placed.images) number ≡ Some (image_text image)
     text_at number image at = slice_get-map image_text placed.images number ∙ ap (option_map image_text) at
 
-pub saved_back : (out script bytes : List ℕ) (clocks : ℕ) (g : Graph) (place : List Position) (files : List SavedFile) (said : BusScript)
+pub saved_back : (order : RunOrder) (g : Graph) (place : List Position) (files : List SavedFile) (said : BusScript)
     (old new : ShelfState) (s : Status) (text : List ℕ) → IsTold old
-    → (placed : PlacesFiles out g place files) → HasNoBadShift placed.words g.decl → script_of g.decl.slices bytes ≡ Ok said
-    → (all : AreSaved files old new) → BackReply out script bytes clocks all.after new s text
-    → CannotReadBack all.after new s text ⊎ IsPlacedRun g.decl placed.words said clocks s text
-saved_back out script bytes clocks g place files said old new s text told placed unmasked meant all (inl reply) =
-    inl (words_unread out g.decl placed.words placed.images all.after new s text placed.program.declares placed.images_are
-    (stand out g place files old new told placed all) reply)
-saved_back out script bytes clocks g place files said old new s text told placed unmasked meant all (inr (read, had, has, reply)) =
-    let back = words_read out g.decl read placed.words had placed.images all.after new placed.program.declares placed.words_fit
-    placed.images_are (stand out g place files old new told placed all) has in
-    let P : Declaration → Type 0 = λ d. WordsBack out script bytes clocks d had s text in
-    let Q : List ℕ → Type 0 = λ ws. WordsBack out script bytes clocks g.decl ws s text in
-    inr (run_back out script bytes clocks g.decl placed.words said s text unmasked meant
+    → (placed : PlacesFiles order.out g place files) → HasNoBadShift placed.words g.decl → script_of g.decl.slices order.bytes ≡ Ok said
+    → (all : AreSaved files old new) → BackReply order all.after new s text
+    → CannotReadBack all.after new s text ⊎ IsPlacedRun g.decl placed.words said order.clocks s text
+saved_back order g place files said old new s text told placed unmasked meant all (inl reply) =
+    inl (words_unread order.out g.decl placed.words placed.images all.after new s text placed.program.declares placed.images_are
+    (stand order.out g place files old new told placed all) reply)
+saved_back order g place files said old new s text told placed unmasked meant all (inr (read, had, has, reply)) =
+    let back = words_read order.out g.decl read placed.words had placed.images all.after new placed.program.declares placed.words_fit
+    placed.images_are (stand order.out g place files old new told placed all) has in
+    let P : Declaration → Type 0 = λ d. WordsBack order d had s text in
+    let Q : List ℕ → Type 0 = λ ws. WordsBack order g.decl ws s text in
+    inr (run_back order g.decl placed.words said s text unmasked meant
     (subst Q back.words_are (subst P back.decl_is reply)))

@@ -2,7 +2,7 @@
 use Rattle.std.proofs.Common.{ℕ, ◌≡◌, ◌⊎◌, inl, inr, List, ◌++◌, length, Some, refl, sym, ap, ◌∙◌, subst, slice_get}
 use Rattle.std.proofs.lemmas.Option.{slice_get_within}
 use Rattle.io_base.specs.Causes.{Rose}
-use Rattle.io_base.specs.Shelf.{ShelfState, GoesOn, CountsNoRead}
+use Rattle.io_base.specs.Shelf.{ShelfState, GoesOn, CountsNoRead, CountsNoChange}
 use Rattle.io_base.specs.Sink.{SinkState, SinkGoesOn, Adds, AddsPrefix}
 use Rattle.mcu_jumps.specs.Position.{Position}
 use Rattle.field_decl.specs.Declaration.{Declaration}
@@ -20,6 +20,7 @@ use Rattle.replies.specs.declared.status.Status.{Status}
 use Rattle.replies.specs.declared.status.Status.TheVariants as status
 use Rattle.replies.specs.declared.reply.Stop.{Stop}
 use Rattle.replies.proofs.Stopping.{StopsBy-map, Ends-map, says_ends, said_stop}
+use Rattle.bench_answers.specs.RunOrder.{RunOrder}
 use Rattle.bench_answers.specs.PlacedFiles.{PlacesFiles}
 use Rattle.bench_answers.specs.Running.{shift_reason, RefusesShift, IsRun}
 use Rattle.bench_answers.specs.ReadingBack.{placed_line, IsPlacedRun, BackReply, MayRun, OrWants}
@@ -137,28 +138,42 @@ shift_told out decl words cell first s text reply = record { cell = cell; first 
 
 -- ---- the files
 
-pub saved_ends : (out script bytes : List ℕ) (clocks : ℕ) (files : List SavedFile) (old mid new : ShelfState) → IsSaved old mid files
-    → TakesOneEach old mid files → CountsNoRead old mid → GoesOn old mid → new.file ≡ mid.file
-    → (s : Status) (text : List ℕ) → OrWants (MayRun out bytes mid new) (BackReply out script bytes clocks mid new) s text
-    → UnlessUnsaved old new (FilesAnswer out script bytes clocks files old new) s text
-saved_ends out script bytes clocks files old mid new saved each_once no_read goes_on same s text (inl back) =
+pub saved_ends : (order : RunOrder) (files : List SavedFile) (old mid new : ShelfState) → IsSaved old mid files
+    → TakesOneEach old mid files → CountsNoRead old mid → GoesOn old mid → new.file ≡ mid.file → CountsNoChange mid new
+    → (s : Status) (text : List ℕ) → OrWants (MayRun order mid new) (BackReply order mid new) s text
+    → UnlessUnsaved old new (FilesAnswer order files old new) s text
+saved_ends order files old mid new saved each_once no_read goes_on same no_change s text (inl back) =
     inr (inr (inl (record {
-      all =
-          record { after = mid; saved = saved; each_once = each_once; no_read = no_read; goes_on = goes_on; same = same };
+      all = record {
+        after = mid;
+        saved = saved;
+        each_once = each_once;
+        no_read = no_read;
+        goes_on = goes_on;
+        same = same;
+        no_change = no_change;
+      };
       back = back;
     })))
-saved_ends out script bytes clocks files old mid new saved each_once no_read goes_on same s text (inr wants) =
+saved_ends order files old mid new saved each_once no_read goes_on same no_change s text (inr wants) =
     inr (inr (inr (record {
-      all =
-          record { after = mid; saved = saved; each_once = each_once; no_read = no_read; goes_on = goes_on; same = same };
+      all = record {
+        after = mid;
+        saved = saved;
+        each_once = each_once;
+        no_read = no_read;
+        goes_on = goes_on;
+        same = same;
+        no_change = no_change;
+      };
       wants = wants;
     })))
 
-pub unsaved_ends : (out script bytes : List ℕ) (clocks : ℕ) (files : List SavedFile) (old new : ShelfState) (place : ℕ) (file : SavedFile)
+pub unsaved_ends : (order : RunOrder) (files : List SavedFile) (old new : ShelfState) (place : ℕ) (file : SavedFile)
     (text : List ℕ) → FailedAt old new files place → TakesOneUpTo old new place → CountsNoRead old new
     → slice_get files place ≡ Some file → text ≡ cannot_save file.name
-    → UnlessUnsaved old new (FilesAnswer out script bytes clocks files old new) status.ShelfFault text
-unsaved_ends out script bytes clocks files old new place file text failed up_to no_read at is =
+    → UnlessUnsaved old new (FilesAnswer order files old new) status.ShelfFault text
+unsaved_ends order files old new place file text failed up_to no_read at is =
     let same : Some file ≡ Some failed.failed = sym at ∙ failed.at in
     let name : file.name ≡ failed.failed.name = cc in
     inr (inl (record {
@@ -176,10 +191,10 @@ pub keeps_all : (old new : ShelfState) (files : List SavedFile) (count : ℕ) �
     → KeepsAllBut old new files (length files)
 keeps_all old new files count keeps = λ name none. keeps name (λ i x within at. none i x (slice_get_within files i x at) at)
 
-pub placed_answer : (out script bytes : List ℕ) (clocks : ℕ) (g : Graph) (place : List Position) (files : List SavedFile)
-    (old new : ShelfState) → PlacesFiles out g place files
-    → (s : Status) (text : List ℕ) → UnlessUnsaved old new (FilesAnswer out script bytes clocks files old new) s text
-    → PlacedAnswer out script bytes clocks g place old new s text
-placed_answer out script bytes clocks g place files old new placed s text (inl unsaved) = inl unsaved
-placed_answer out script bytes clocks g place files old new placed s text (inr answer) =
+pub placed_answer : (order : RunOrder) (g : Graph) (place : List Position) (files : List SavedFile)
+    (old new : ShelfState) → PlacesFiles order.out g place files
+    → (s : Status) (text : List ℕ) → UnlessUnsaved old new (FilesAnswer order files old new) s text
+    → PlacedAnswer order g place old new s text
+placed_answer order g place files old new placed s text (inl unsaved) = inl unsaved
+placed_answer order g place files old new placed s text (inr answer) =
     inr (record { files = files; placed = placed; answer = answer })

@@ -1,3 +1,4 @@
+pub mod RunOrder
 pub mod Running
 pub mod PlacedFiles
 pub mod ReadingBack

@@ -11,6 +11,7 @@ use Rattle.replies.specs.Texts.{cannot_read, no_memory}
 use Rattle.replies.specs.ScriptStep.{RefusesScript}
 use Rattle.replies.specs.declared.status.Status.{Status}
 use Rattle.replies.specs.declared.status.Status.TheVariants as status
+use Rattle.bench_answers.specs.RunOrder.{RunOrder}
 use Rattle.bench_answers.specs.Running.{RefusesShift}
 
 -- the line before the trace
@@ -28,25 +29,26 @@ abbrev pub ShiftOrRun : List ℕ → Declaration → List ℕ → BusScript → 
 ShiftOrRun out decl words said clocks s text = RefusesShift out decl words s text ⊎ IsPlacedRun decl words said clocks s text
 
 -- what becomes of words that were read back and of the script's bytes, which are read for their declaration
-abbrev pub WordsBack : List ℕ → List ℕ → List ℕ → ℕ → Declaration → List ℕ → Status → List ℕ → Type 0
-WordsBack out script bytes clocks decl words s text =
-    RefusesScript script decl.slices bytes s text
-    ⊎ ((said : BusScript) × (script_of decl.slices bytes ≡ Ok said) × ShiftOrRun out decl words said clocks s text)
+abbrev pub WordsBack : RunOrder → Declaration → List ℕ → Status → List ℕ → Type 0
+WordsBack order decl words s text =
+    RefusesScript order.script decl.slices order.bytes s text
+    ⊎ ((said : BusScript) × (script_of decl.slices order.bytes ≡ Ok said)
+    × ShiftOrRun order.out decl words said order.clocks s text)
 
 -- what is replied after saving, by what is read back
-abbrev pub BackReply : List ℕ → List ℕ → List ℕ → ℕ → ShelfState → ShelfState → Status → List ℕ → Type 0
-BackReply out script bytes clocks old new s text =
-    WordsReply out old new s text
-    ⊎ ((decl : Declaration) × (words : List ℕ) × HasWords out old new decl words × WordsBack out script bytes clocks decl words s text)
+abbrev pub BackReply : RunOrder → ShelfState → ShelfState → Status → List ℕ → Type 0
+BackReply order old new s text =
+    WordsReply order.out old new s text
+    ⊎ ((decl : Declaration) × (words : List ℕ) × HasWords order.out old new decl words × WordsBack order decl words s text)
 
 -- these words were read back, the script's bytes were read for their declaration, and no word orders the right shift
 -- with K bits other than 0
-pub record MayRun (out bytes : List ℕ) (old new : ShelfState) : Type 0 where
+pub record MayRun (order : RunOrder) (old new : ShelfState) : Type 0 where
   pub decl : Declaration
   pub words : List ℕ
   pub said : BusScript
-  pub had : HasWords out old new decl words
-  pub meant : script_of decl.slices bytes ≡ Ok said
+  pub had : HasWords order.out old new decl words
+  pub meant : script_of decl.slices order.bytes ≡ Ok said
   pub no_bad_shift : HasNoBadShift words decl
 
 -- memory was refused, after the line `placed` only where this holds

@@ -11,6 +11,7 @@ ghost use Rattle.bus_bench.specs.Chip.{chip_trace};
 ghost use Rattle.bus_bench.specs.Matches.{Matches};
 ghost use Rattle.saved_files.specs.SavedFile.{SavedFile};
 ghost use Rattle.replies.specs.declared.status.Status.{Status};
+ghost use Rattle.bench_answers.specs.RunOrder.{RunOrder};
 ghost use Rattle.bench_answers.specs.PlacedFiles.{PlacesFiles};
 ghost use Rattle.bench_answers.specs.ReadingBack.{BackReply, CannotReadBack, IsPlacedRun};
 ghost use Rattle.bench_answers.specs.Placed.{AreSaved};
@@ -21,10 +22,10 @@ use bus_bench::{chip_matches_flow, words_of_a_placement};
 /// reply is `placed` and the trace of its very words under what the script says, unless a read fails, which is told
 /// by its name.
 pub fn saved_is_read_back()
-    ensures { (out script bytes : List ℕ) (clocks : ℕ) (g : Graph) (place : List Position) (files : List SavedFile) (said : BusScript) (old new : ShelfState) (s : Status) (text : List ℕ) →
-        IsTold old → (placed : PlacesFiles out g place files) → script_of g.decl.slices bytes ≡ Ok said →
-        (all : AreSaved files old new) → BackReply out script bytes clocks all.after new s text →
-        CannotReadBack all.after new s text ⊎ IsPlacedRun g.decl placed.words said clocks s text }
+    ensures { (order : RunOrder) (g : Graph) (place : List Position) (files : List SavedFile) (said : BusScript) (old new : ShelfState) (s : Status) (text : List ℕ) →
+        IsTold old → (placed : PlacesFiles order.out g place files) → script_of g.decl.slices order.bytes ≡ Ok said →
+        (all : AreSaved files old new) → BackReply order all.after new s text →
+        CannotReadBack all.after new s text ⊎ IsPlacedRun g.decl placed.words said order.clocks s text }
 {
     words_of_a_placement();
 }

@@ -1,6 +1,6 @@
 //! A placement is saved as images, read back and run.
 ghost use Rattle.std.specs.Prelude.{◌≡◌, ◌≤◌, ◌<◌, ◌^◌, [], Some, length, slice_get, vec_capacity};
-ghost use Rattle.io_base.specs.Shelf.{GoesOn};
+ghost use Rattle.io_base.specs.Shelf.{GoesOn, CountsNoChange};
 ghost use Rattle.io_base.specs.Sink.{SinkGoesOn};
 ghost use Rattle.field_decl.specs.Decls.{declaration_of};
 ghost use Rattle.flow_graph.specs.Graph.{graph_of};
@@ -11,6 +11,7 @@ ghost use Rattle.saved_files.specs.SavedFile.{SavedFile};
 ghost use Rattle.saved_files.specs.Unsaved.{cannot_save};
 ghost use Rattle.saved_files.specs.Saving.{AreApart, AreShort, KeepsAllBut};
 ghost use Rattle.replies.specs.Ending.{Ends, Says};
+ghost use Rattle.bench_answers.specs.RunOrder.{order_of};
 ghost use Rattle.bench_answers.specs.PlacedFiles.{KeepsOtherFiles};
 ghost use Rattle.bench_answers.specs.ReadingBack.{BackReply, IsPlacedRun, MayRun, OrWants, ShiftOrRun};
 ghost use Rattle.bench_answers.specs.Placed.{FilesAnswer, PlacedAnswer, UnlessUnsaved};
@@ -87,9 +88,10 @@ fn read_back<S: Shelf, K: Sink>(
 ) -> Status
     requires out_short { length asked.out.now ≤ GIVEN_NAME_LIMIT }
     requires small { length bytes.now < 2 ^ 32 }
-    ensures ends { Ends (OrWants (MayRun asked.entry.out.now bytes.now (S.state shelf.old) (S.state shelf.new)) (BackReply asked.entry.out.now asked.entry.script.now bytes.now asked.entry.clocks (S.state shelf.old) (S.state shelf.new)))
+    ensures ends { Ends (OrWants (MayRun (order_of asked.entry bytes.now) (S.state shelf.old) (S.state shelf.new)) (BackReply (order_of asked.entry bytes.now) (S.state shelf.old) (S.state shelf.new)))
         (K.state out.old) (K.state out.new) result }
     ensures same { (S.state shelf.new).file ≡ (S.state shelf.old).file }
+    ensures no_change { CountsNoChange (S.state shelf.old) (S.state shelf.new) }
     ensures goes_on { GoesOn (S.state shelf.old) (S.state shelf.new) }
     ensures sink_goes_on { SinkGoesOn (K.state out.old) (K.state out.new) }
 {
@@ -129,7 +131,7 @@ fn save_files<S: Shelf, K: Sink>(
     requires apart { AreApart files.now }
     requires short { AreShort files.now }
     ensures ends { Ends (UnlessUnsaved (S.state shelf.old) (S.state shelf.new)
-        (FilesAnswer asked.entry.out.now asked.entry.script.now bytes.now asked.entry.clocks files.now (S.state shelf.old) (S.state shelf.new)))
+        (FilesAnswer (order_of asked.entry bytes.now) files.now (S.state shelf.old) (S.state shelf.new)))
         (K.state out.old) (K.state out.new) result }
     ensures others { KeepsAllBut (S.state shelf.old) (S.state shelf.new) files.now (length files.now) }
     ensures goes_on { GoesOn (S.state shelf.old) (S.state shelf.new) }
@@ -163,7 +165,7 @@ pub fn save_and_run<S: Shelf, K: Sink>(
     requires out_short { length asked.out.now ≤ GIVEN_NAME_LIMIT }
     requires small { length script_bytes.now < 2 ^ 32 }
     requires legal { IsLegal (graph_of program.now) placement.now }
-    ensures ends { Ends (PlacedAnswer asked.entry.out.now asked.entry.script.now script_bytes.now asked.entry.clocks (graph_of program.now) placement.now (S.state shelf.old) (S.state shelf.new))
+    ensures ends { Ends (PlacedAnswer (order_of asked.entry script_bytes.now) (graph_of program.now) placement.now (S.state shelf.old) (S.state shelf.new))
         (K.state out.old) (K.state out.new) result }
     ensures others { KeepsOtherFiles asked.entry.out.now (S.state shelf.old) (S.state shelf.new) }
     ensures goes_on { GoesOn (S.state shelf.old) (S.state shelf.new) }

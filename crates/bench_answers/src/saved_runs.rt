@@ -1,6 +1,6 @@
 //! The trace of saved images on the bench.
 ghost use Rattle.std.specs.Prelude.{◌≡◌, ◌≤◌, MatchResult, IfOk, length};
-ghost use Rattle.io_base.specs.Shelf.{GoesOn};
+ghost use Rattle.io_base.specs.Shelf.{GoesOn, CountsNoChange};
 ghost use Rattle.io_base.specs.Sink.{SinkGoesOn};
 ghost use Rattle.field_decl.specs.Decls.{declaration_of};
 ghost use Rattle.bus_script.specs.ScriptFits.{IsScriptFor};
@@ -37,6 +37,7 @@ fn load_bench<S: Shelf>(
         (StopsBy (BenchInputsReply out.now script.now (S.state shelf.old) (S.state shelf.new))) }
     ensures fits { IfOk result (λ inputs. IsScriptFor inputs.saved.decl.slices inputs.script) }
     ensures same { (S.state shelf.new).file ≡ (S.state shelf.old).file }
+    ensures no_change { CountsNoChange (S.state shelf.old) (S.state shelf.new) }
     ensures goes_on { GoesOn (S.state shelf.old) (S.state shelf.new) }
 {
     let saved = match load_words(alloc, shelf, out) {
@@ -83,6 +84,7 @@ pub fn run_saved<S: Shelf, K: Sink>(
     ensures ends { Ends (OrNoMemory (RunReply name.now script.now clocks (S.state shelf.old) (S.state shelf.new)))
         (K.state out.old) (K.state out.new) result }
     ensures same { (S.state shelf.new).file ≡ (S.state shelf.old).file }
+    ensures no_change { CountsNoChange (S.state shelf.old) (S.state shelf.new) }
     ensures goes_on { GoesOn (S.state shelf.old) (S.state shelf.new) }
     ensures sink_goes_on { SinkGoesOn (K.state out.old) (K.state out.new) }
 {

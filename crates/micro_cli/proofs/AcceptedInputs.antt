@@ -24,7 +24,7 @@ pub record AreOne (g other : Graph) (bytes other_bytes : List ℕ) (said other_s
   pub bytes_are : other_bytes ≡ bytes
   pub says : other_said ≡ said
 
-some_bytes : (file : Option (List ℕ)) (a b : List ℕ) → file ≡ Some a → file ≡ Some b → b ≡ a
+pub some_bytes : (file : Option (List ℕ)) (a b : List ℕ) → file ≡ Some a → file ≡ Some b → b ≡ a
 some_bytes file a b one two = let same : Some b ≡ Some a = sym two ∙ one in cc
 
 pub accepted_once : (src script : List ℕ) (files : List ℕ → Option (List ℕ)) (g other : Graph) (bytes other_bytes : List ℕ)
@@ -76,7 +76,7 @@ pub record IsUnread (old new : ShelfState) (s : Status) : Type 0 where
   pub status_is : s ≡ status.ShelfFault
   pub rose : Rose old.faults new.faults
 
-unread_by : (name : List ℕ) (old mid new : ShelfState) (s : Status) (text : List ℕ) → GoesOn old mid → CannotRead name mid new s text
+pub unread_by : (name : List ℕ) (old mid new : ShelfState) (s : Status) (text : List ℕ) → GoesOn old mid → CannotRead name mid new s text
     → IsUnread old new s
 unread_by name old mid new s text goes_on unread = record {
   status_is = unread.reply.status_is;
@@ -135,7 +135,7 @@ inputs_unread src script old new g bytes said s text tells accepted (inr lacks) 
 abbrev pub RefusesOrFails : Status → Type 0
 RefusesOrFails s = (s ≡ status.Input) ⊎ (s ≡ status.ShelfFault)
 
-file_status : (name : List ℕ) (limit : ℕ) (old new : ShelfState) (s : Status) (text : List ℕ) → FileReply name limit old new s text
+pub file_status : (name : List ℕ) (limit : ℕ) (old new : ShelfState) (s : Status) (text : List ℕ) → FileReply name limit old new s text
     → RefusesOrFails s
 file_status name limit old new s text reply = go reply.reason
   where

@@ -4,10 +4,17 @@ pub mod CommandWords
 pub mod ToldFiles
 pub mod AcceptedLemmas
 pub mod AcceptedInputs
+pub mod OverFilesSteps
 pub mod RunAfter
+pub mod CommandsOver
+pub mod OneParse
+pub mod OneReply
+pub mod OneMap
 pub mod MakeSteps
 pub mod MakeOutcomes
 pub mod ShortRefutation
 pub mod MakeLaws
 pub mod UnplacedLaws
+pub mod LeavingLaws
+pub mod PrintingLaws
 pub mod Promises

@@ -26,6 +26,7 @@ use Rattle.saved_files.proofs.StandingFiles.{map_stands, layout_stands, image_st
 use Rattle.replies.specs.Ending.{Ends}
 use Rattle.replies.specs.declared.status.Status.{Status}
 use Rattle.replies.specs.declared.status.Status.TheVariants as status
+use Rattle.bench_answers.specs.RunOrder.{RunOrder}
 use Rattle.bench_answers.specs.PlacedFiles.{PlacesFiles}
 use Rattle.bench_answers.specs.ReadingBack.{placed_line, BackReply, CannotReadBack, IsPlacedRun}
 use Rattle.bench_answers.specs.Placed.{AreSaved}
@@ -42,11 +43,11 @@ use Rattle.micro_cli.proofs.RunAfter.{RunsOrFails, back_is_run}
 
 abbrev pub SavedIsReadBack : Type 0
 SavedIsReadBack =
-    (out script bytes : List ℕ) (clocks : ℕ) (g : Graph) (place : List Position) (files : List SavedFile) (said : BusScript)
+    (order : RunOrder) (g : Graph) (place : List Position) (files : List SavedFile) (said : BusScript)
     (old new : ShelfState) (s : Status) (text : List ℕ)
-    → IsTold old → (placed : PlacesFiles out g place files) → script_of g.decl.slices bytes ≡ Ok said → (all : AreSaved files old new)
-    → BackReply out script bytes clocks all.after new s text
-    → CannotReadBack all.after new s text ⊎ IsPlacedRun g.decl placed.words said clocks s text
+    → IsTold old → (placed : PlacesFiles order.out g place files) → script_of g.decl.slices order.bytes ≡ Ok said → (all : AreSaved files old new)
+    → BackReply order all.after new s text
+    → CannotReadBack all.after new s text ⊎ IsPlacedRun g.decl placed.words said order.clocks s text
 
 abbrev pub ImagesFollow : Type 0
 ImagesFollow =
@@ -82,7 +83,7 @@ found_back : SavedIsReadBack → (src script out : List ℕ) (clocks : ℕ) (old
     → CannotReadBack f.all.after new s text ⊎ IsPlacedRun f.start.g.decl f.placed.words f.start.starts.read.said clocks s text
 found_back law src script out clocks old new s text told f =
     let accepted = starts_accepted src script old f.start.mid f.start.g f.start.bytes told.tells f.start.starts in
-    law out script f.start.bytes clocks f.start.g f.place f.files f.start.starts.read.said f.start.mid new s text
+    law (record { out = out; script = script; bytes = f.start.bytes; clocks = clocks }) f.start.g f.place f.files f.start.starts.read.said f.start.mid new s text
     (told_start src script old f.start told) f.placed accepted.says f.all f.back
 
 -- the files of the placement stand at exit
@@ -210,7 +211,8 @@ pub found_runs : (src script out : List ℕ) (clocks : ℕ) (old new : ShelfStat
 found_runs src script out clocks old new s text tells f =
     let goes_on = goes_on_both old f.start.mid f.all.after
     (starts_go_on src script old f.start.mid f.start.g f.start.bytes f.start.starts) f.all.goes_on in
-    back_is_run out script f.start.bytes clocks f.all.after new s text (tells_goes_on old f.all.after goes_on tells) f.back
+    back_is_run (record { out = out; script = script; bytes = f.start.bytes; clocks = clocks }) f.all.after new s text f.start.starts.read.file.fits
+    (tells_goes_on old f.all.after goes_on tells) f.back
 
 -- the run of the files at exit
 found_run : (src script out : List ℕ) (clocks : ℕ) (old new : ShelfState) (s : Status) (text : List ℕ) (g : Graph) (bytes : List ℕ)

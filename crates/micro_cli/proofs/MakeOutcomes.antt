@@ -47,7 +47,7 @@ pub record Found (src script out : List ℕ) (clocks : ℕ) (old new : ShelfStat
   pub files : List SavedFile
   pub placed : PlacesFiles out start.g place files
   pub all : AreSaved files start.mid new
-  pub back : BackReply out script start.bytes clocks all.after new s text
+  pub back : BackReply (record { out = out; script = script; bytes = start.bytes; clocks = clocks }) all.after new s text
 
 -- a refutation was found, and became this
 pub record Refuted (src script out : List ℕ) (conflicts : ℕ) (old new : ShelfState) (s : Status) (text : List ℕ) : Type 0 where
@@ -81,10 +81,10 @@ unsaved src script old new start files s text cannot =
 
 found_outcome : (src script out : List ℕ) (clocks conflicts : ℕ) (old new : ShelfState) (s : Status) (text : List ℕ)
     (start : Start src script old)
-    → FoundAnswer out script start.bytes clocks start.g start.mid new s text → Outcome src script out clocks conflicts old new s text
+    → FoundAnswer (record { out = out; script = script; bytes = start.bytes; clocks = clocks }) start.g start.mid new s text → Outcome src script out clocks conflicts old new s text
 found_outcome src script out clocks conflicts old new s text start answer = go answer.placed.answer
   where
-    go : FilesAnswer out script start.bytes clocks answer.placed.files start.mid new s text
+    go : FilesAnswer (record { out = out; script = script; bytes = start.bytes; clocks = clocks }) answer.placed.files start.mid new s text
         → Outcome src script out clocks conflicts old new s text
     go (inl cannot) = lacks_file (unsaved src script old new start answer.placed.files s text cannot)
     go (inr (inl saved)) =
@@ -127,14 +127,14 @@ pub outcome_of : (src script out : List ℕ) (clocks conflicts : ℕ) (old new :
 outcome_of src script out clocks conflicts old new s text (inl without) = go without.told
   where
     go : OrNoMemory (InputsReply src script old new) s text → Outcome src script out clocks conflicts old new s text
-    go (inl reply) = lacks_inputs (record { reply = reply; same = without.same })
+    go (inl reply) = lacks_inputs (record { reply = reply; same = without.left.same })
     go (inr wants) = lacks_memory wants.0
 outcome_of src script out clocks conflicts old new s text (inr from) = go from.answer
   where
     start : Start src script old
     start = record { g = from.g; bytes = from.bytes; mid = from.mid; starts = from.starts }
 
-    go : UnlessUnsaved from.mid new (SearchEnd out script from.bytes clocks conflicts from.g from.mid new) s text
+    go : UnlessUnsaved from.mid new (SearchEnd (record { out = out; script = script; bytes = from.bytes; clocks = clocks }) conflicts from.g from.mid new) s text
         → Outcome src script out clocks conflicts old new s text
     go (inl wants) = lacks_memory wants.status_is
     go (inr (inl answer)) = found_outcome src script out clocks conflicts old new s text start answer

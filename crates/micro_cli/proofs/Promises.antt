@@ -8,6 +8,8 @@ use Rattle.micro_cli.specs.Command.{Command, map, flow, run, make, check}
 use Rattle.micro_cli.specs.Answer.{Answer}
 use Rattle.micro_cli.specs.Keeping.{Keeps}
 use Rattle.micro_cli.specs.Headline.{SavesImages, ReadsBack, SavesRefutation, ChecksOut, SpendsBudget, Decides, NeverRefuses, ChangesNothing}
+use Rattle.micro_cli.specs.Leaving.{LeavesFiles, LeavesNoPart, SavesOnce}
+use Rattle.micro_cli.proofs.LeavingLaws.{make_leaves, make_leaves_no_part, make_saves_once}
 use Rattle.micro_cli.proofs.MakeLaws.{SavedIsReadBack, ImagesFollow, done_made, done_read_back, input_read_back, accepted_decides, accepted_not_refused, nothing_changed}
 use Rattle.micro_cli.proofs.UnplacedLaws.{refuted_stands, refuted_checks, undecided_stands}
 
@@ -93,8 +95,38 @@ pub files_kept : SavedIsReadBack → (command : Option Command) (old new : Shelf
     → Keeps command old new → Ends (Answer command old new) before after s → ChangesNothing old new s
 files_kept law (Some (make src script out clocks conflicts)) old new before after s keeps ends =
     λ told is. nothing_changed law src script out clocks conflicts old new before after s told is ends
-files_kept law (Some (map src)) old new before after s keeps ends = λ told is. keeps
-files_kept law (Some (flow src script clocks)) old new before after s keeps ends = λ told is. keeps
-files_kept law (Some (run out script clocks)) old new before after s keeps ends = λ told is. keeps
-files_kept law (Some (check src refutation)) old new before after s keeps ends = λ told is. keeps
-files_kept law None old new before after s keeps ends = λ told is. keeps
+files_kept law (Some (map src)) old new before after s keeps ends = λ told is. keeps.same
+files_kept law (Some (flow src script clocks)) old new before after s keeps ends = λ told is. keeps.same
+files_kept law (Some (run out script clocks)) old new before after s keeps ends = λ told is. keeps.same
+files_kept law (Some (check src refutation)) old new before after s keeps ends = λ told is. keeps.same
+files_kept law None old new before after s keeps ends = λ told is. keeps.same
+
+pub left_kept : (command : Option Command) (old new : ShelfState) (before after : SinkState) (s : Status)
+    → Ends (Answer command old new) before after s → LeavesFiles command old new
+left_kept (Some (make src script out clocks conflicts)) old new before after s ends =
+    make_leaves src script out clocks conflicts old new before after s ends
+left_kept (Some (map src)) old new before after s ends = tt
+left_kept (Some (flow src script clocks)) old new before after s ends = tt
+left_kept (Some (run out script clocks)) old new before after s ends = tt
+left_kept (Some (check src refutation)) old new before after s ends = tt
+left_kept None old new before after s ends = tt
+
+pub no_part_kept : (command : Option Command) (old new : ShelfState) (before after : SinkState) (s : Status)
+    → Ends (Answer command old new) before after s → LeavesNoPart command old new s
+no_part_kept (Some (make src script out clocks conflicts)) old new before after s ends =
+    λ want. make_leaves_no_part src script out clocks conflicts old new before after s want ends
+no_part_kept (Some (map src)) old new before after s ends = tt
+no_part_kept (Some (flow src script clocks)) old new before after s ends = tt
+no_part_kept (Some (run out script clocks)) old new before after s ends = tt
+no_part_kept (Some (check src refutation)) old new before after s ends = tt
+no_part_kept None old new before after s ends = tt
+
+pub once_kept : (command : Option Command) (old new : ShelfState) (before after : SinkState) (s : Status)
+    → Ends (Answer command old new) before after s → SavesOnce command old new s
+once_kept (Some (make src script out clocks conflicts)) old new before after s ends =
+    make_saves_once src script out clocks conflicts old new before after s ends
+once_kept (Some (map src)) old new before after s ends = tt
+once_kept (Some (flow src script clocks)) old new before after s ends = tt
+once_kept (Some (run out script clocks)) old new before after s ends = tt
+once_kept (Some (check src refutation)) old new before after s ends = tt
+once_kept None old new before after s ends = tt

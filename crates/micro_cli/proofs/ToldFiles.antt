@@ -24,6 +24,7 @@ use Rattle.replies.specs.Ending.{Says, Ends}
 use Rattle.replies.specs.declared.status.Status.{Status}
 use Rattle.replies.specs.declared.status.Status.TheVariants as status
 use Rattle.replies.proofs.Stopping.{Ends-map, says_ends}
+use Rattle.bench_answers.specs.RunOrder.{RunOrder}
 use Rattle.bench_answers.specs.Placed.{UnlessUnsaved, PlacedAnswer}
 use Rattle.micro_cli.specs.declared.answer_files.AnswerFile.{AnswerFile}
 use Rattle.micro_cli.specs.Telling.{refuted_line, undecided_line}
@@ -81,28 +82,28 @@ wants_ends answer shelf from to result says =
     (inl (record { status_is = refl; text_is = refl; same = refl })) says
 
 -- what became of a placement
-pub found_answer : (out script bytes : List ℕ) (clocks conflicts : ℕ) (g : Graph) (place : List Position) (old new : ShelfState)
+pub found_answer : (order : RunOrder) (conflicts : ℕ) (g : Graph) (place : List Position) (old new : ShelfState)
     (s : Status) (text : List ℕ)
-    → PlacedAnswer out script bytes clocks g place old new s text → SearchAnswer out script bytes clocks conflicts g old new s text
-found_answer out script bytes clocks conflicts g place old new s text (inl wants) = inl wants
-found_answer out script bytes clocks conflicts g place old new s text (inr placed) = inr (inl (record { place = place; placed = placed }))
+    → PlacedAnswer order g place old new s text → SearchAnswer order conflicts g old new s text
+found_answer order conflicts g place old new s text (inl wants) = inl wants
+found_answer order conflicts g place old new s text (inr placed) = inr (inl (record { place = place; placed = placed }))
 
 -- what became of a refutation
-pub refuted_answer : (out script bytes : List ℕ) (clocks conflicts count budget : ℕ) (g : Graph) (lines : List Line)
+pub refuted_answer : (order : RunOrder) (conflicts count budget : ℕ) (g : Graph) (lines : List Line)
     (old new : ShelfState) → count ≡ length (clauses_of g) → budget ≡ conflicts
     → Refutes (list_of g) lines → length lines ≤ budget + 1 → HasNoPlacement g
     → check (list_of g) (refutation_text (length (clauses_of g)) lines) ≡ checked.Refutes (length lines)
     → length (refutation_text (length (clauses_of g)) lines) ≤ length lines * (12 * (list_of g).vars + 27)
     → length (clauses_of g) + length lines < 2 ^ 32 → (s : Status) (text : List ℕ)
     → UnlessUnsaved old new
-    (SavesOrCannot (refuted_files out (refutation_text count lines)) status.Refuted (refuted_line (length lines)) old new) s text
-    → SearchAnswer out script bytes clocks conflicts g old new s text
-refuted_answer out script bytes clocks conflicts count budget g lines old new counted same refutes few none_legal accepted short numbered
+    (SavesOrCannot (refuted_files order.out (refutation_text count lines)) status.Refuted (refuted_line (length lines)) old new) s text
+    → SearchAnswer order conflicts g old new s text
+refuted_answer order conflicts count budget g lines old new counted same refutes few none_legal accepted short numbered
     s text (inl wants) = inl wants
-refuted_answer out script bytes clocks conflicts count budget g lines old new counted same refutes few none_legal accepted short numbered
+refuted_answer order conflicts count budget g lines old new counted same refutes few none_legal accepted short numbered
     s text (inr answer) =
     let by_count : ℕ → Type 0 =
-    λ m. SavesOrCannot (refuted_files out (refutation_text m lines)) status.Refuted (refuted_line (length lines)) old new s text in
+    λ m. SavesOrCannot (refuted_files order.out (refutation_text m lines)) status.Refuted (refuted_line (length lines)) old new s text in
     inr (inr (inl (record {
       lines = lines;
       refutes = refutes;
@@ -115,15 +116,15 @@ refuted_answer out script bytes clocks conflicts count budget g lines old new co
     })))
 
 -- what became of a spent budget
-pub undecided_answer : (out script bytes : List ℕ) (clocks conflicts count budget : ℕ) (g : Graph) (lines : List Line) (clash : Clash)
+pub undecided_answer : (order : RunOrder) (conflicts count budget : ℕ) (g : Graph) (lines : List Line) (clash : Clash)
     (old new : ShelfState) → count ≡ length (clauses_of g) → budget ≡ conflicts
     → Spent (list_of g) lines clash budget → (s : Status) (text : List ℕ)
     → UnlessUnsaved old new
-    (SavesOrCannot (undecided_files out (part_text count lines clash)) status.Undecided (undecided_line conflicts) old new) s text
-    → SearchAnswer out script bytes clocks conflicts g old new s text
-undecided_answer out script bytes clocks conflicts count budget g lines clash old new counted same spent s text (inl wants) = inl wants
-undecided_answer out script bytes clocks conflicts count budget g lines clash old new counted same spent s text (inr answer) =
+    (SavesOrCannot (undecided_files order.out (part_text count lines clash)) status.Undecided (undecided_line conflicts) old new) s text
+    → SearchAnswer order conflicts g old new s text
+undecided_answer order conflicts count budget g lines clash old new counted same spent s text (inl wants) = inl wants
+undecided_answer order conflicts count budget g lines clash old new counted same spent s text (inr answer) =
     let by_budget : ℕ → Type 0 = λ b. Spent (list_of g) lines clash b in
     let by_count : ℕ → Type 0 =
-    λ m. SavesOrCannot (undecided_files out (part_text m lines clash)) status.Undecided (undecided_line conflicts) old new s text in
+    λ m. SavesOrCannot (undecided_files order.out (part_text m lines clash)) status.Undecided (undecided_line conflicts) old new s text in
     inr (inr (inr (record { lines = lines; clash = clash; spent = subst by_budget same spent; answer = subst by_count counted answer })))

@@ -12,5 +12,9 @@ pub mod CheckerText
 pub mod Checking
 pub mod Answer
 pub mod Accepted
+pub mod OverFiles
+pub mod Replying
 pub mod After
 pub mod Headline
+pub mod Printing
+pub mod Leaving

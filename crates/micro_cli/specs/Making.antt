@@ -10,6 +10,7 @@ use Rattle.replies.specs.ScriptStep.{script_limit}
 use Rattle.replies.specs.Ending.{OrNoMemory}
 use Rattle.replies.specs.declared.status.Status.{Status}
 use Rattle.micro_cli.specs.Inputs.{InputsReply}
+use Rattle.micro_cli.specs.Keeping.{LeavesAll}
 
 -- these bytes were read under the script's name, and are a script for so many slices
 pub record ReadsScript (name : List ℕ) (slices : ℕ) (old new : ShelfState) (bytes : List ℕ) : Type 0 where
@@ -29,12 +30,12 @@ pub record FromInputs (src script out : List ℕ) (clocks conflicts : ℕ) (old 
   pub bytes : List ℕ
   pub mid : ShelfState
   pub starts : StartsFrom src script old mid g bytes
-  pub answer : SearchAnswer out script bytes clocks conflicts g mid new s text
+  pub answer : SearchAnswer (record { out = out; script = script; bytes = bytes; clocks = clocks }) conflicts g mid new s text
 
--- source or script were not had, or memory for them was refused, and no file changed
+-- source or script were not had, or memory for them was refused; no file changed, and none was begun or grown
 pub record WithoutInputs (src script : List ℕ) (old new : ShelfState) (s : Status) (text : List ℕ) : Type 0 where
   pub told : OrNoMemory (InputsReply src script old new) s text
-  pub same : new.file ≡ old.file
+  pub left : LeavesAll old new
 
 -- what `make SRC SCRIPT OUT clocks=N conflicts=B` answers
 abbrev pub MakeAnswer : List ℕ → List ℕ → List ℕ → ℕ → ℕ → ShelfState → ShelfState → Status → List ℕ → Type 0

@@ -16,15 +16,15 @@ use Rattle.refute_check.specs.declared.checked.Checked.TheVariants as checked
 use Rattle.saved_files.specs.FilesOfAnswers.{refuted_files, undecided_files}
 use Rattle.replies.specs.declared.status.Status.{Status}
 use Rattle.replies.specs.declared.status.Status.TheVariants as status
+use Rattle.bench_answers.specs.RunOrder.{RunOrder}
 use Rattle.bench_answers.specs.Placed.{IsPlaced, UnlessUnsaved}
 use Rattle.micro_cli.specs.Telling.{refuted_line, undecided_line}
 use Rattle.micro_cli.specs.Saving.{SavesOrCannot}
 
 -- a legal placement was found: its files were made, and became this
-pub record FoundAnswer (out script bytes : List ℕ) (clocks : ℕ) (g : Graph) (old new : ShelfState) (s : Status) (text : List ℕ)
-    : Type 0 where
+pub record FoundAnswer (order : RunOrder) (g : Graph) (old new : ShelfState) (s : Status) (text : List ℕ) : Type 0 where
   pub place : List Position
-  pub placed : IsPlaced out script bytes clocks g place old new s text
+  pub placed : IsPlaced order g place old new s text
 
 -- No placement is legal, by a refutation of the program's clauses of at most one line more than the budget. The
 -- checker accepts its text, whose length is bounded by the number of lines and variables. It is saved as `OUT.ref`
@@ -50,12 +50,12 @@ pub record UndecidedAnswer (out : List ℕ) (g : Graph) (conflicts : ℕ) (old n
       (undecided_line conflicts) old new s text
 
 -- how the search ended, and what became of that
-abbrev pub SearchEnd : List ℕ → List ℕ → List ℕ → ℕ → ℕ → Graph → ShelfState → ShelfState → Status → List ℕ → Type 0
-SearchEnd out script bytes clocks conflicts g old new s text =
-    FoundAnswer out script bytes clocks g old new s text
-    ⊎ RefutedAnswer out g conflicts old new s text
-    ⊎ UndecidedAnswer out g conflicts old new s text
+abbrev pub SearchEnd : RunOrder → ℕ → Graph → ShelfState → ShelfState → Status → List ℕ → Type 0
+SearchEnd order conflicts g old new s text =
+    FoundAnswer order g old new s text
+    ⊎ RefutedAnswer order.out g conflicts old new s text
+    ⊎ UndecidedAnswer order.out g conflicts old new s text
 
 -- what the search answers of a program and a script's bytes, unless memory is refused before a file is begun
-abbrev pub SearchAnswer : List ℕ → List ℕ → List ℕ → ℕ → ℕ → Graph → ShelfState → ShelfState → Status → List ℕ → Type 0
-SearchAnswer out script bytes clocks conflicts g old new = UnlessUnsaved old new (SearchEnd out script bytes clocks conflicts g old new)
+abbrev pub SearchAnswer : RunOrder → ℕ → Graph → ShelfState → ShelfState → Status → List ℕ → Type 0
+SearchAnswer order conflicts g old new = UnlessUnsaved old new (SearchEnd order conflicts g old new)

@@ -1,6 +1,6 @@
 //! The command `check SRC REF`: whether a file refutes that a source has a legal placement.
 ghost use Rattle.std.specs.Prelude.{◌≡◌, ◌≤◌, length};
-ghost use Rattle.io_base.specs.Shelf.{GoesOn};
+ghost use Rattle.io_base.specs.Shelf.{GoesOn, CountsNoChange};
 ghost use Rattle.io_base.specs.Sink.{SinkGoesOn};
 ghost use Rattle.flow_graph.specs.Graph.{graph_of};
 ghost use Rattle.replies.specs.Ending.{Ends, ComesTo, OrNoMemory};
@@ -23,6 +23,7 @@ fn refutation_reply<S: Shelf>(
     requires { length name.now ≤ NAME_LIMIT }
     ensures reply { ComesTo (RefutationReply name.now (graph_of program.now) (S.state shelf.old) (S.state shelf.new)) result }
     ensures same { (S.state shelf.new).file ≡ (S.state shelf.old).file }
+    ensures no_change { CountsNoChange (S.state shelf.old) (S.state shelf.new) }
     ensures goes_on { GoesOn (S.state shelf.old) (S.state shelf.new) }
 {
     match check_ref(alloc, program, shelf, name) {
@@ -51,6 +52,7 @@ fn check_reply<S: Shelf>(
     requires refutation_short { length refutation.now ≤ NAME_LIMIT }
     ensures reply { ComesTo (CheckReply src.now refutation.now (S.state shelf.old) (S.state shelf.new)) result }
     ensures same { (S.state shelf.new).file ≡ (S.state shelf.old).file }
+    ensures no_change { CountsNoChange (S.state shelf.old) (S.state shelf.new) }
     ensures goes_on { GoesOn (S.state shelf.old) (S.state shelf.new) }
 {
     let program = load_source(alloc, shelf, src)?;
@@ -71,6 +73,7 @@ pub fn check_command<S: Shelf, K: Sink>(
     ensures ends { Ends (OrNoMemory (CheckReply src.now refutation.now (S.state shelf.old) (S.state shelf.new)))
         (K.state out.old) (K.state out.new) result }
     ensures same { (S.state shelf.new).file ≡ (S.state shelf.old).file }
+    ensures no_change { CountsNoChange (S.state shelf.old) (S.state shelf.new) }
     ensures goes_on { GoesOn (S.state shelf.old) (S.state shelf.new) }
     ensures sink_goes_on { SinkGoesOn (K.state out.old) (K.state out.new) }
 {

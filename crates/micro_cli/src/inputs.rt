@@ -1,6 +1,6 @@
 //! The first steps of a command that takes a source and a script.
 ghost use Rattle.std.specs.Prelude.{◌≡◌, ◌≤◌, MatchResult, IfOk, length};
-ghost use Rattle.io_base.specs.Shelf.{GoesOn};
+ghost use Rattle.io_base.specs.Shelf.{GoesOn, CountsNoChange};
 ghost use Rattle.flow_graph.specs.Graph.{graph_of};
 ghost use Rattle.bus_script.specs.ScriptFits.{IsScriptFor};
 ghost use Rattle.replies.specs.Ending.{StopsBy};
@@ -35,6 +35,7 @@ pub fn load_inputs<S: Shelf>(
         (StopsBy (InputsReply src.now script.now (S.state shelf.old) (S.state shelf.new))) }
     ensures fits { IfOk result (λ inputs. IsScriptFor (graph_of inputs.program).decl.slices inputs.script) }
     ensures same { (S.state shelf.new).file ≡ (S.state shelf.old).file }
+    ensures no_change { CountsNoChange (S.state shelf.old) (S.state shelf.new) }
     ensures goes_on { GoesOn (S.state shelf.old) (S.state shelf.new) }
 {
     let program = load_source(alloc, shelf, src)?;

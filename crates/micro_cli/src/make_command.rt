@@ -1,7 +1,7 @@
 //! The command `make SRC SCRIPT OUT clocks=N conflicts=B`: a placement is taken from the pins or searched, and what
 //! comes of it is saved.
 ghost use Rattle.std.specs.Prelude.{◌≡◌, ◌≤◌, ◌<◌, ◌^◌, MatchResult, IfOk, length};
-ghost use Rattle.io_base.specs.Shelf.{GoesOn};
+ghost use Rattle.io_base.specs.Shelf.{GoesOn, CountsNoChange};
 ghost use Rattle.io_base.specs.Sink.{SinkGoesOn};
 ghost use Rattle.flow_graph.specs.Graph.{graph_of};
 ghost use Rattle.micro_cli.specs.Keeping.{KeepsAllButAnswers};
@@ -40,6 +40,7 @@ fn load_script_bytes<S: Shelf>(
         (StopsBy (ScriptReply name.now slices (S.state shelf.old) (S.state shelf.new))) }
     ensures small { IfOk result (λ bytes. length bytes.items < 2 ^ 32) }
     ensures same { (S.state shelf.new).file ≡ (S.state shelf.old).file }
+    ensures no_change { CountsNoChange (S.state shelf.old) (S.state shelf.new) }
     ensures goes_on { GoesOn (S.state shelf.old) (S.state shelf.new) }
 {
     let bytes = load_file(alloc, shelf, name, SCRIPT_LIMIT)?;
@@ -63,6 +64,7 @@ fn load_make_inputs<S: Shelf>(
         (StopsBy (InputsReply src.now script.now (S.state shelf.old) (S.state shelf.new))) }
     ensures small { IfOk result (λ inputs. length inputs.script.items < 2 ^ 32) }
     ensures same { (S.state shelf.new).file ≡ (S.state shelf.old).file }
+    ensures no_change { CountsNoChange (S.state shelf.old) (S.state shelf.new) }
     ensures goes_on { GoesOn (S.state shelf.old) (S.state shelf.new) }
 {
     let program = load_source(alloc, shelf, src)?;

@@ -1,6 +1,6 @@
 //! The command `map SRC`: the map of a source at the cells of its pins.
 ghost use Rattle.std.specs.Prelude.{◌≡◌, ◌≤◌, length, codes};
-ghost use Rattle.io_base.specs.Shelf.{GoesOn};
+ghost use Rattle.io_base.specs.Shelf.{GoesOn, CountsNoChange};
 ghost use Rattle.io_base.specs.Sink.{SinkGoesOn};
 ghost use Rattle.flow_graph.specs.Graph.{graph_of};
 ghost use Rattle.replies.specs.Ending.{Ends, ComesTo, OrNoMemory};
@@ -47,6 +47,7 @@ fn map_reply<S: Shelf>(alloc: Global, shelf: &mut S, src: &str) -> Result<Reply,
     requires { length src.now ≤ NAME_LIMIT }
     ensures reply { ComesTo (MapReply src.now (S.state shelf.old) (S.state shelf.new)) result }
     ensures same { (S.state shelf.new).file ≡ (S.state shelf.old).file }
+    ensures no_change { CountsNoChange (S.state shelf.old) (S.state shelf.new) }
     ensures goes_on { GoesOn (S.state shelf.old) (S.state shelf.new) }
 {
     let program = load_source(alloc, shelf, src)?;
@@ -65,6 +66,7 @@ pub fn map_command<S: Shelf, K: Sink>(
     ensures ends { Ends (OrNoMemory (MapReply src.now (S.state shelf.old) (S.state shelf.new)))
         (K.state out.old) (K.state out.new) result }
     ensures same { (S.state shelf.new).file ≡ (S.state shelf.old).file }
+    ensures no_change { CountsNoChange (S.state shelf.old) (S.state shelf.new) }
     ensures goes_on { GoesOn (S.state shelf.old) (S.state shelf.new) }
     ensures sink_goes_on { SinkGoesOn (K.state out.old) (K.state out.new) }
 {

@@ -8,6 +8,7 @@ ghost use Rattle.saved_files.specs.FileNames.{refutation_name, undecided_name};
 ghost use Rattle.saved_files.specs.FilesOfAnswers.{refuted_files, undecided_files};
 ghost use Rattle.replies.specs.Ending.{Ends};
 ghost use Rattle.replies.specs.declared.status.Status.TheVariants as status;
+ghost use Rattle.bench_answers.specs.RunOrder.{order_of};
 ghost use Rattle.bench_answers.specs.Placed.{UnlessUnsaved};
 ghost use Rattle.micro_cli.specs.Telling.{refuted_line, undecided_line};
 ghost use Rattle.micro_cli.specs.Saving.{SavesOrCannot};
@@ -90,7 +91,7 @@ fn search_and_save<S: Shelf, K: Sink>(
     requires out_short { length asked.out.now ≤ GIVEN_NAME_LIMIT }
     requires small { length script_bytes.now < 2 ^ 32 }
     requires conflicts { conflicts ≤ CONFLICT_LIMIT }
-    ensures ends { Ends (SearchAnswer asked.entry.out.now asked.entry.script.now script_bytes.now asked.entry.clocks conflicts (graph_of program.now) (S.state shelf.old) (S.state shelf.new))
+    ensures ends { Ends (SearchAnswer (order_of asked.entry script_bytes.now) conflicts (graph_of program.now) (S.state shelf.old) (S.state shelf.new))
         (K.state out.old) (K.state out.new) result }
     ensures others { KeepsAllButAnswers asked.entry.out.now (S.state shelf.old) (S.state shelf.new) }
     ensures goes_on { GoesOn (S.state shelf.old) (S.state shelf.new) }
@@ -135,7 +136,7 @@ pub fn place_and_save<S: Shelf, K: Sink>(
     requires out_short { length asked.out.now ≤ GIVEN_NAME_LIMIT }
     requires small { length script_bytes.now < 2 ^ 32 }
     requires conflicts { conflicts ≤ CONFLICT_LIMIT }
-    ensures ends { Ends (SearchAnswer asked.entry.out.now asked.entry.script.now script_bytes.now asked.entry.clocks conflicts (graph_of program.now) (S.state shelf.old) (S.state shelf.new))
+    ensures ends { Ends (SearchAnswer (order_of asked.entry script_bytes.now) conflicts (graph_of program.now) (S.state shelf.old) (S.state shelf.new))
         (K.state out.old) (K.state out.new) result }
     ensures others { KeepsAllButAnswers asked.entry.out.now (S.state shelf.old) (S.state shelf.new) }
     ensures goes_on { GoesOn (S.state shelf.old) (S.state shelf.new) }

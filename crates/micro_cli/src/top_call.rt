@@ -1,7 +1,9 @@
 //! The whole program as one call, over any shelf and any sink.
 //!
 //! The contract of `top` is its clauses `ends`, `keeps`, `goes_on` and `sink_goes_on`. All others follow from `ends` and
-//! `keeps` by the law `answers_keep_the_promises`, and are there so that a reader need not unfold these.
+//! `keeps` by the law `answers_keep_the_promises`, over the definitions alone, and are there so that a reader need not
+//! unfold these. `ends`, `keeps`, `once` and the two that go on speak of every shelf and sink, the others of such as
+//! tell their files and bytes.
 ghost use Rattle.std.specs.Prelude.{◌≡◌, map, string_bytes};
 ghost use Rattle.io_base.specs.Shelf.{GoesOn};
 ghost use Rattle.io_base.specs.Sink.{SinkGoesOn};
@@ -10,6 +12,8 @@ ghost use Rattle.micro_cli.specs.Command.{command_of};
 ghost use Rattle.micro_cli.specs.Answer.{Answer};
 ghost use Rattle.micro_cli.specs.Keeping.{Keeps};
 ghost use Rattle.micro_cli.specs.Headline.{SavesImages, ReadsBack, SavesRefutation, ChecksOut, SpendsBudget, Decides, NeverRefuses, ChangesNothing};
+ghost use Rattle.micro_cli.specs.Printing.{PrintsReplies, RefusesInputs, PrintsNothingElse};
+ghost use Rattle.micro_cli.specs.Leaving.{LeavesFiles, LeavesNoPart, SavesOnce};
 
 use crate::answering::answer;
 use crate::laws::answers_keep_the_promises;
@@ -42,9 +46,21 @@ pub fn top<S: Shelf, K: Sink>(alloc: Global, words: &[String], shelf: &mut S, ou
         (S.state shelf.old) (S.state shelf.new) (K.state out.old) (K.state out.new) result }
     ensures acceptance { NeverRefuses (command_of (map string_bytes words.now)) (S.state shelf.old) result }
 
+    // What is printed, over a shelf that tells its files and a sink that tells its bytes: where no call fails, what
+    // `map`, `flow`, `run` and `check` reply is decided by words and files alone.
+    ensures replies { PrintsReplies (command_of (map string_bytes words.now))
+        (S.state shelf.old) (S.state shelf.new) (K.state out.old) (K.state out.new) result }
+    ensures refuses { RefusesInputs (command_of (map string_bytes words.now))
+        (S.state shelf.old) (S.state shelf.new) (K.state out.old) (K.state out.new) result }
+    ensures prints { PrintsNothingElse (command_of (map string_bytes words.now))
+        (S.state shelf.old) (S.state shelf.new) (K.state out.old) (K.state out.new) result }
+
     // How the files and the sink are left.
     ensures keeps { Keeps (command_of (map string_bytes words.now)) (S.state shelf.old) (S.state shelf.new) }
     ensures nothing { ChangesNothing (S.state shelf.old) (S.state shelf.new) result }
+    ensures leaves { LeavesFiles (command_of (map string_bytes words.now)) (S.state shelf.old) (S.state shelf.new) }
+    ensures no_part { LeavesNoPart (command_of (map string_bytes words.now)) (S.state shelf.old) (S.state shelf.new) result }
+    ensures once { SavesOnce (command_of (map string_bytes words.now)) (S.state shelf.old) (S.state shelf.new) result }
     ensures goes_on { GoesOn (S.state shelf.old) (S.state shelf.new) }
     ensures sink_goes_on { SinkGoesOn (K.state out.old) (K.state out.new) }
 {

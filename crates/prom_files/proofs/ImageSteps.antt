@@ -1,9 +1,9 @@
 -- Images that are had one after the other.
 use Rattle.std.proofs.Common.{ℕ, zero, suc, ◌≡◌, ◌+◌, ◌<◌, ◌≤◌, ◌⊎◌, inl, inr, List, [], ◌∷◌, ◌++◌, length, Some, slice_get, IsTrue, refl, sym, ap, ◌∙◌, subst, arith, length-append}
-use Rattle.io_base.specs.Shelf.{ShelfState, GoesOn}
+use Rattle.io_base.specs.Shelf.{ShelfState, GoesOn, CountsNoChange}
 use Rattle.bpnf.specs.Image.{Image}
 use Rattle.saved_files.specs.FileNames.{image_name}
-use Rattle.saved_files.proofs.ComposingStates.{goes_on_same, goes_on_both}
+use Rattle.saved_files.proofs.ComposingStates.{goes_on_same, goes_on_both, no_change_same, no_change_both}
 use Rattle.prom_split.proofs.ListSteps.{element_cases}
 use Rattle.replies.specs.Ending.{StopsBy}
 use Rattle.replies.specs.declared.reply.Stop.{Stop}
@@ -22,6 +22,8 @@ pub record AreHad (out : List ℕ) (bits count : ℕ) (old new : ShelfState) (im
   pub all : length images ≡ count
   pub each : (number : ℕ) (image : Image) → slice_get images number ≡ Some image → IsImageOf out bits old number image
   pub same : new.file ≡ old.file
+  pub faults : new.faults ≡ old.faults
+  pub no_change : CountsNoChange old new
   pub goes_on : GoesOn old new
 
 -- none are had at first
@@ -30,6 +32,8 @@ had_none out bits shelf = record {
   all = refl;
   each = λ number image at. cc;
   same = refl;
+  faults = refl;
+  no_change = no_change_same shelf;
   goes_on = goes_on_same shelf;
 }
 
@@ -41,6 +45,8 @@ had_more out bits count old mid new images image had one = record {
   all = length-append images (image ∷ []) ∙ omega (arith, had.all);
   each = each;
   same = one.file.same ∙ had.same;
+  faults = one.file.faults ∙ had.faults;
+  no_change = no_change_both old mid new had.no_change one.file.no_change;
   goes_on = goes_on_both old mid new had.goes_on one.file.goes_on;
 }
   where

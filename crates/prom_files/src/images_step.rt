@@ -1,6 +1,6 @@
 //! The step that reads the images of an output.
 ghost use Rattle.std.specs.Prelude.{◌≡◌, ◌≤◌, MatchResult, IfOk, length};
-ghost use Rattle.io_base.specs.Shelf.{GoesOn};
+ghost use Rattle.io_base.specs.Shelf.{GoesOn, CountsNoChange};
 ghost use Rattle.bpnf.specs.Image.{IsWidth};
 ghost use Rattle.replies.specs.Texts.{Refuses};
 ghost use Rattle.replies.specs.Ending.{StopsBy};
@@ -70,6 +70,7 @@ fn load_image<S: Shelf>(alloc: Global, shelf: &mut S, name: &str, bits: u8) -> R
         (HasImage name.now bits (S.state shelf.old) (S.state shelf.new))
         (StopsBy (ImageReply name.now bits (S.state shelf.old) (S.state shelf.new))) }
     ensures same { (S.state shelf.new).file ≡ (S.state shelf.old).file }
+    ensures no_change { CountsNoChange (S.state shelf.old) (S.state shelf.new) }
     ensures goes_on { GoesOn (S.state shelf.old) (S.state shelf.new) }
 {
     match load_file(alloc, shelf, name, IMAGE_LIMIT) {
@@ -96,6 +97,7 @@ fn load_numbered<S: Shelf>(
         (HasImage (image_name out.now number) bits (S.state shelf.old) (S.state shelf.new))
         (StopsBy (ImageReply (image_name out.now number) bits (S.state shelf.old) (S.state shelf.new))) }
     ensures same { (S.state shelf.new).file ≡ (S.state shelf.old).file }
+    ensures no_change { CountsNoChange (S.state shelf.old) (S.state shelf.new) }
     ensures goes_on { GoesOn (S.state shelf.old) (S.state shelf.new) }
 {
     match image_name(alloc, out, number) {
@@ -118,6 +120,7 @@ pub fn load_images<S: Shelf>(
         (λ images. HasImages out.now bits count (S.state shelf.old) (S.state shelf.new) images.items)
         (StopsBy (ImagesReply out.now bits count (S.state shelf.old) (S.state shelf.new))) }
     ensures same { (S.state shelf.new).file ≡ (S.state shelf.old).file }
+    ensures no_change { CountsNoChange (S.state shelf.old) (S.state shelf.new) }
     ensures goes_on { GoesOn (S.state shelf.old) (S.state shelf.new) }
 {
     let mut images = Vec::new(alloc);

@@ -1,6 +1,6 @@
 //! The step that reads a layout.
 ghost use Rattle.std.specs.Prelude.{◌≡◌, ◌≤◌, MatchResult, length};
-ghost use Rattle.io_base.specs.Shelf.{GoesOn};
+ghost use Rattle.io_base.specs.Shelf.{GoesOn, CountsNoChange};
 ghost use Rattle.field_decl.specs.Decls.{declaration_of};
 ghost use Rattle.replies.specs.Ending.{StopsBy};
 ghost use Rattle.saved_files.specs.FileNames.{layout_name};
@@ -27,6 +27,7 @@ pub fn load_layout<S: Shelf>(
         (λ decl. HasLayout out.now (S.state shelf.old) (S.state shelf.new) (declaration_of decl))
         (StopsBy (LayoutReply out.now (S.state shelf.old) (S.state shelf.new))) }
     ensures same { (S.state shelf.new).file ≡ (S.state shelf.old).file }
+    ensures no_change { CountsNoChange (S.state shelf.old) (S.state shelf.new) }
     ensures goes_on { GoesOn (S.state shelf.old) (S.state shelf.new) }
 {
     match load_file(alloc, shelf, name, LAYOUT_LIMIT) {

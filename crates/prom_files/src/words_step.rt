@@ -1,6 +1,6 @@
 //! The step that reads the microwords saved under a name.
 ghost use Rattle.std.specs.Prelude.{◌≡◌, ◌≤◌, MatchResult, length};
-ghost use Rattle.io_base.specs.Shelf.{GoesOn};
+ghost use Rattle.io_base.specs.Shelf.{GoesOn, CountsNoChange};
 ghost use Rattle.field_decl.specs.Decls.{declaration_of};
 ghost use Rattle.replies.specs.Ending.{StopsBy};
 ghost use Rattle.prom_split.specs.Images.{image_count};
@@ -37,6 +37,7 @@ fn load_joined<S: Shelf>(
         (HasJoined out.now (S.state shelf.old) (S.state shelf.new) (declaration_of decl.now))
         (StopsBy (ImagesReply out.now decl.now.prom_bits (image_count (declaration_of decl.now)) (S.state shelf.old) (S.state shelf.new))) }
     ensures same { (S.state shelf.new).file ≡ (S.state shelf.old).file }
+    ensures no_change { CountsNoChange (S.state shelf.old) (S.state shelf.new) }
     ensures goes_on { GoesOn (S.state shelf.old) (S.state shelf.new) }
 {
     match load_images(alloc, shelf, out, decl.prom_bits, prom_count(decl) as u8) {
@@ -59,6 +60,7 @@ pub fn load_words<S: Shelf>(alloc: Global, shelf: &mut S, out: &str) -> Result<S
         (λ saved. HasWords out.now (S.state shelf.old) (S.state shelf.new) (declaration_of saved.decl) saved.words)
         (StopsBy (WordsReply out.now (S.state shelf.old) (S.state shelf.new))) }
     ensures same { (S.state shelf.new).file ≡ (S.state shelf.old).file }
+    ensures no_change { CountsNoChange (S.state shelf.old) (S.state shelf.new) }
     ensures goes_on { GoesOn (S.state shelf.old) (S.state shelf.new) }
 {
     let name = match layout_name(alloc, out) {

@@ -1,6 +1,6 @@
 //! The step that loads a file.
 ghost use Rattle.std.specs.Prelude.{◌≡◌, ◌≤◌, MatchResult, length};
-ghost use Rattle.io_base.specs.Shelf.{GoesOn};
+ghost use Rattle.io_base.specs.Shelf.{GoesOn, CountsNoChange};
 ghost use Rattle.replies.specs.Ending.{StopsBy};
 ghost use Rattle.replies.specs.FileStep.{HasFile, FileReply};
 
@@ -21,6 +21,7 @@ pub fn load_file<S: Shelf>(
         (λ bytes. HasFile name.now limit (S.state shelf.old) (S.state shelf.new) bytes.items)
         (StopsBy (FileReply name.now limit (S.state shelf.old) (S.state shelf.new))) }
     ensures same { (S.state shelf.new).file ≡ (S.state shelf.old).file }
+    ensures no_change { CountsNoChange (S.state shelf.old) (S.state shelf.new) }
     ensures goes_on { GoesOn (S.state shelf.old) (S.state shelf.new) }
 {
     match load(alloc, shelf, name, limit) {

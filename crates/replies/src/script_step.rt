@@ -1,6 +1,6 @@
 //! The step that reads a script.
 ghost use Rattle.std.specs.Prelude.{◌≡◌, ◌≤◌, ◌<◌, ◌^◌, MatchResult, Ok, IfOk, length};
-ghost use Rattle.io_base.specs.Shelf.{GoesOn};
+ghost use Rattle.io_base.specs.Shelf.{GoesOn, CountsNoChange};
 ghost use Rattle.bus_script.specs.Script.{script_of};
 ghost use Rattle.bus_script.specs.ScriptFits.{IsScriptFor};
 ghost use Rattle.replies.specs.Ending.{StopsBy};
@@ -48,6 +48,7 @@ pub fn load_script<S: Shelf>(
         (StopsBy (ScriptReply name.now slices (S.state shelf.old) (S.state shelf.new))) }
     ensures fits { IfOk result (IsScriptFor slices) }
     ensures same { (S.state shelf.new).file ≡ (S.state shelf.old).file }
+    ensures no_change { CountsNoChange (S.state shelf.old) (S.state shelf.new) }
     ensures goes_on { GoesOn (S.state shelf.old) (S.state shelf.new) }
 {
     match load_file(alloc, shelf, name, SCRIPT_LIMIT) {

@@ -1,6 +1,6 @@
 //! The step that reads a source.
 ghost use Rattle.std.specs.Prelude.{◌≡◌, ◌≤◌, MatchResult, length};
-ghost use Rattle.io_base.specs.Shelf.{GoesOn};
+ghost use Rattle.io_base.specs.Shelf.{GoesOn, CountsNoChange};
 ghost use Rattle.flow_graph.specs.Graph.{graph_of};
 ghost use Rattle.replies.specs.Ending.{StopsBy};
 ghost use Rattle.replies.specs.SourceStep.{HasSource, SourceReply};
@@ -23,6 +23,7 @@ pub fn load_source<S: Shelf>(alloc: Global, shelf: &mut S, src: &str) -> Result<
         (λ program. HasSource src.now (S.state shelf.old) (S.state shelf.new) (graph_of program))
         (StopsBy (SourceReply src.now (S.state shelf.old) (S.state shelf.new))) }
     ensures same { (S.state shelf.new).file ≡ (S.state shelf.old).file }
+    ensures no_change { CountsNoChange (S.state shelf.old) (S.state shelf.new) }
     ensures goes_on { GoesOn (S.state shelf.old) (S.state shelf.new) }
 {
     match load_file(alloc, shelf, src, SOURCE_LIMIT) {

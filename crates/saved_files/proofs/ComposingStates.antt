@@ -1,7 +1,7 @@
 -- What holds between two states of a shelf holds between an earlier and a later one.
 use Rattle.std.proofs.Common.{ℕ, ◌≡◌, ◌≤◌, List, Option, IsTrue, refl, arith, sym, ap, ◌∙◌, subst}
 use Rattle.io_base.specs.Causes.{Rose}
-use Rattle.io_base.specs.Shelf.{ShelfState, GoesOn}
+use Rattle.io_base.specs.Shelf.{ShelfState, GoesOn, CountsNoChange}
 
 -- a count that rose from a later state on rose from an earlier one
 pub rose_before : (a b c : ℕ) → a ≤ b → Rose b c → Rose a c
@@ -27,6 +27,15 @@ goes_on_both start old new before after = record {
   appends = omega (arith, before.appends, after.appends);
   tells = after.tells ∙ before.tells;
   honest = after.honest ∙ before.honest;
+}
+
+pub no_change_same : (shelf : ShelfState) → CountsNoChange shelf shelf
+no_change_same shelf = record { creates = refl; appends = refl }
+
+pub no_change_both : (start old new : ShelfState) → CountsNoChange start old → CountsNoChange old new → CountsNoChange start new
+no_change_both start old new before after = record {
+  creates = after.creates ∙ before.creates;
+  appends = after.appends ∙ before.appends;
 }
 
 -- a shelf that told its files stays so

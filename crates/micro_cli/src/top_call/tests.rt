@@ -2,8 +2,10 @@
 
 mod fetch_execute;
 mod flows;
+mod limits;
 mod makes;
 mod maps;
+mod misread;
 mod outside;
 mod pin_refusals;
 mod sources;

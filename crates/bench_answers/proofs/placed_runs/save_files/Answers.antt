@@ -4,6 +4,7 @@ use Rattle.saved_files.specs.Unsaved.{cannot_save}
 use Rattle.replies.specs.Texts.{no_memory}
 use Rattle.replies.specs.declared.status.Status.TheVariants as status
 use Rattle.replies.proofs.Stopping.{Ends-map, says_ends}
+use Rattle.bench_answers.specs.RunOrder.{order_of}
 use Rattle.bench_answers.specs.ReadingBack.{BackReply, MayRun, OrWants}
 use Rattle.bench_answers.specs.Placed.{FilesAnswer, UnlessUnsaved}
 use Rattle.bench_answers.proofs.Replying.{saved_ends, unsaved_ends, keeps_all}
@@ -13,7 +14,7 @@ pub returns-in-Err-clause-ends : goal.returns-in-Err-clause-ends
 returns-in-Err-clause-ends g c =
     let asked = c.args.asked in
     let old = g.S.Shelf.state c.args.shelf.now in
-    says_ends (UnlessUnsaved old old (FilesAnswer asked.out.now asked.script.now c.args.bytes.now asked.clocks c.args.files.now old old))
+    says_ends (UnlessUnsaved old old (FilesAnswer (order_of asked c.args.bytes.now) c.args.files.now old old))
     status.NoMemory no_memory (g.K.Sink.state c.args.out.now) (g.K.Sink.state c.say_no_memory.new.out) c.say_no_memory.result
     (inl (record { status_is = refl; text_is = refl; same = refl })) c.say_no_memory.ensures.says
 
@@ -23,11 +24,12 @@ returns-in-Ok-save_all-clause-ends g c =
     let old = g.S.Shelf.state c.args.shelf.now in
     let mid = g.S.Shelf.state c.save_all.new.shelf in
     let new = g.S.Shelf.state c.read_back.new.shelf in
-    Ends-map (OrWants (MayRun asked.out.now c.args.bytes.now mid new)
-    (BackReply asked.out.now asked.script.now c.args.bytes.now asked.clocks mid new))
-    (UnlessUnsaved old new (FilesAnswer asked.out.now asked.script.now c.args.bytes.now asked.clocks c.args.files.now old new))
-    (saved_ends asked.out.now asked.script.now c.args.bytes.now asked.clocks c.args.files.now old mid new c.in-Ok-save_all.ensures.ok
-    c.in-Ok-save_all.ensures.each_once c.in-Ok-save_all.ensures.no_read c.in-Ok-save_all.ensures.goes_on c.read_back.ensures.same)
+    Ends-map (OrWants (MayRun (order_of asked c.args.bytes.now) mid new)
+    (BackReply (order_of asked c.args.bytes.now) mid new))
+    (UnlessUnsaved old new (FilesAnswer (order_of asked c.args.bytes.now) c.args.files.now old new))
+    (saved_ends (order_of asked c.args.bytes.now) c.args.files.now old mid new c.in-Ok-save_all.ensures.ok
+    c.in-Ok-save_all.ensures.each_once c.in-Ok-save_all.ensures.no_read c.in-Ok-save_all.ensures.goes_on c.read_back.ensures.same
+    c.read_back.ensures.no_change)
     (g.K.Sink.state c.args.out.now) (g.K.Sink.state c.read_back.new.out) c.read_back.result c.read_back.ensures.ends
 
 pub tell_unsaved-requires-clause-place : goal.tell_unsaved-requires-clause-place
@@ -41,10 +43,10 @@ returns-clause-ends g c =
     let old = g.S.Shelf.state c.args.shelf.now in
     let new = g.S.Shelf.state c.save_all.new.shelf in
     let failed = c.in-Err-save_all.ensures.err in
-    says_ends (UnlessUnsaved old new (FilesAnswer asked.out.now asked.script.now c.args.bytes.now asked.clocks c.args.files.now old new))
+    says_ends (UnlessUnsaved old new (FilesAnswer (order_of asked c.args.bytes.now) c.args.files.now old new))
     status.ShelfFault (cannot_save failed.failed.name) (g.K.Sink.state c.args.out.now) (g.K.Sink.state c.tell_unsaved.new.out)
     c.tell_unsaved.result
-    (unsaved_ends asked.out.now asked.script.now c.args.bytes.now asked.clocks c.args.files.now old new c.in-Err-save_all.place
+    (unsaved_ends (order_of asked c.args.bytes.now) c.args.files.now old new c.in-Err-save_all.place
     failed.failed (cannot_save failed.failed.name)
     failed c.in-Err-save_all.ensures.up_to c.in-Err-save_all.ensures.no_read failed.at refl)
     (c.tell_unsaved.ensures.says failed.failed failed.at)

@@ -56,19 +56,19 @@ pub returns-in-Map-clause-keeps : goal.returns-in-Map-clause-keeps
 returns-in-Map-clause-keeps g c =
     let P : Option Command
     → Type 0 = λ command. Keeps command (g.S.Shelf.state c.args.shelf.now) (g.S.Shelf.state c.map_command.new.shelf) in
-    subst P c.in-Map.ensures.command c.map_command.ensures.same
+    subst P c.in-Map.ensures.command (record { same = c.map_command.ensures.same; no_change = c.map_command.ensures.no_change })
 
 pub returns-in-Flow-clause-keeps : goal.returns-in-Flow-clause-keeps
 returns-in-Flow-clause-keeps g c =
     let P : Option Command
     → Type 0 = λ command. Keeps command (g.S.Shelf.state c.args.shelf.now) (g.S.Shelf.state c.flow_command.new.shelf) in
-    subst P c.in-Flow.ensures.command c.flow_command.ensures.same
+    subst P c.in-Flow.ensures.command (record { same = c.flow_command.ensures.same; no_change = c.flow_command.ensures.no_change })
 
 pub returns-in-Run-clause-keeps : goal.returns-in-Run-clause-keeps
 returns-in-Run-clause-keeps g c =
     let P : Option Command
     → Type 0 = λ command. Keeps command (g.S.Shelf.state c.args.shelf.now) (g.S.Shelf.state c.run_saved.new.shelf) in
-    subst P c.in-Run.ensures.command c.run_saved.ensures.same
+    subst P c.in-Run.ensures.command (record { same = c.run_saved.ensures.same; no_change = c.run_saved.ensures.no_change })
 
 pub returns-in-Make-clause-keeps : goal.returns-in-Make-clause-keeps
 returns-in-Make-clause-keeps g c =
@@ -80,9 +80,9 @@ pub returns-in-Check-clause-keeps : goal.returns-in-Check-clause-keeps
 returns-in-Check-clause-keeps g c =
     let P : Option Command
     → Type 0 = λ command. Keeps command (g.S.Shelf.state c.args.shelf.now) (g.S.Shelf.state c.check_command.new.shelf) in
-    subst P c.in-Check.ensures.command c.check_command.ensures.same
+    subst P c.in-Check.ensures.command (record { same = c.check_command.ensures.same; no_change = c.check_command.ensures.no_change })
 
 pub returns-in-Unknown-clause-keeps : goal.returns-in-Unknown-clause-keeps
 returns-in-Unknown-clause-keeps g c =
     let P : Option Command → Type 0 = λ command. Keeps command (g.S.Shelf.state c.args.shelf.now) (g.S.Shelf.state c.args.shelf.now) in
-    subst P c.in-Unknown.ensures.command refl
+    subst P c.in-Unknown.ensures.command (record { same = refl; no_change = record { creates = refl; appends = refl } })

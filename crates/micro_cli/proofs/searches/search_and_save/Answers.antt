@@ -13,6 +13,7 @@ use Rattle.ref_text.specs.Text.{refutation_text, part_text}
 use Rattle.saved_files.specs.FilesOfAnswers.{refuted_files, undecided_files}
 use Rattle.replies.specs.declared.status.Status.TheVariants as status
 use Rattle.replies.proofs.Stopping.{Ends-map}
+use Rattle.bench_answers.specs.RunOrder.{order_of}
 use Rattle.bench_answers.specs.Placed.{UnlessUnsaved, PlacedAnswer}
 use Rattle.micro_cli.specs.Telling.{refuted_line, undecided_line}
 use Rattle.micro_cli.specs.Saving.{SavesOrCannot}
@@ -73,9 +74,9 @@ returns-in-Ok-Found-clause-ends g c =
     let graph = graph_of c.args.program.now in
     let old = g.S.Shelf.state c.args.shelf.now in
     let new = g.S.Shelf.state c.save_and_run.new.shelf in
-    Ends-map (PlacedAnswer asked.out.now asked.script.now c.args.script_bytes.now asked.clocks graph c.in-Ok-Found.placement old new)
-    (SearchAnswer asked.out.now asked.script.now c.args.script_bytes.now asked.clocks c.args.conflicts graph old new)
-    (found_answer asked.out.now asked.script.now c.args.script_bytes.now asked.clocks c.args.conflicts graph c.in-Ok-Found.placement old
+    Ends-map (PlacedAnswer (order_of asked c.args.script_bytes.now) graph c.in-Ok-Found.placement old new)
+    (SearchAnswer (order_of asked c.args.script_bytes.now) c.args.conflicts graph old new)
+    (found_answer (order_of asked c.args.script_bytes.now) c.args.conflicts graph c.in-Ok-Found.placement old
     new)
     (g.K.Sink.state c.args.out.now) (g.K.Sink.state c.save_and_run.new.out) c.save_and_run.result c.save_and_run.ensures.ends
 
@@ -107,8 +108,8 @@ returns-in-Ok-Refuted-clause-ends g c =
     let short = c.refutation_texts_are_short.ensures.each (list_of graph) lines valid of_lines.0.derived vars numbers in
     Ends-map (UnlessUnsaved old new
     (SavesOrCannot (refuted_files asked.out.now (refutation_text count lines)) status.Refuted (refuted_line (length lines)) old new))
-    (SearchAnswer asked.out.now asked.script.now c.args.script_bytes.now asked.clocks c.args.conflicts graph old new)
-    (refuted_answer asked.out.now asked.script.now c.args.script_bytes.now asked.clocks c.args.conflicts count c.from.result graph lines
+    (SearchAnswer (order_of asked c.args.script_bytes.now) c.args.conflicts graph old new)
+    (refuted_answer (order_of asked c.args.script_bytes.now) c.args.conflicts count c.from.result graph lines
     old new
     c.clause_count-clauses.ensures.count c.from.ensures of_lines.0 of_lines.1 of_lines.2 accepted short numbers)
     (g.K.Sink.state c.args.out.now) (g.K.Sink.state c.save_refutation.new.out) c.save_refutation.result c.save_refutation.ensures.ends
@@ -129,8 +130,8 @@ returns-in-Ok-Undecided-clause-ends g c =
     Ends-map (UnlessUnsaved old new
     (SavesOrCannot (undecided_files asked.out.now (part_text count lines clash)) status.Undecided (undecided_line c.args.conflicts)
     old new))
-    (SearchAnswer asked.out.now asked.script.now c.args.script_bytes.now asked.clocks c.args.conflicts graph old new)
-    (undecided_answer asked.out.now asked.script.now c.args.script_bytes.now asked.clocks c.args.conflicts count c.from.result graph lines
+    (SearchAnswer (order_of asked c.args.script_bytes.now) c.args.conflicts graph old new)
+    (undecided_answer (order_of asked c.args.script_bytes.now) c.args.conflicts count c.from.result graph lines
     clash old new
     c.clause_count-clauses.ensures.count c.from.ensures of_lines)
     (g.K.Sink.state c.args.out.now) (g.K.Sink.state c.save_spent.new.out) c.save_spent.result c.save_spent.ensures.ends
@@ -139,6 +140,6 @@ pub returns-in-Err-clause-ends : goal.returns-in-Err-clause-ends
 returns-in-Err-clause-ends g c =
     let asked = c.args.asked in
     let shelf = g.S.Shelf.state c.args.shelf.now in
-    wants_ends (SearchEnd asked.out.now asked.script.now c.args.script_bytes.now asked.clocks c.args.conflicts
+    wants_ends (SearchEnd (order_of asked c.args.script_bytes.now) c.args.conflicts
     (graph_of c.args.program.now) shelf shelf) shelf
     (g.K.Sink.state c.args.out.now) (g.K.Sink.state c.say_no_memory.new.out) c.say_no_memory.result c.say_no_memory.ensures.says

@@ -51,3 +51,39 @@ returns-clause-nothing g c =
     (g.S.Shelf.state c.answer-status.new.shelf)
     (g.K.Sink.state c.args.out.now) (g.K.Sink.state c.answer-status.new.out)
     c.answer-status.result c.answer-status.ensures.keeps c.answer-status.ensures.ends
+
+pub returns-clause-replies : goal.returns-clause-replies
+returns-clause-replies g c =
+    c.answers_keep_the_promises.ensures.replies (command_of (map string_bytes c.args.words.now)) (g.S.Shelf.state c.args.shelf.now)
+    (g.S.Shelf.state c.answer-status.new.shelf)
+    (g.K.Sink.state c.args.out.now) (g.K.Sink.state c.answer-status.new.out) c.answer-status.result c.answer-status.ensures.ends
+
+pub returns-clause-refuses : goal.returns-clause-refuses
+returns-clause-refuses g c =
+    c.answers_keep_the_promises.ensures.refuses (command_of (map string_bytes c.args.words.now)) (g.S.Shelf.state c.args.shelf.now)
+    (g.S.Shelf.state c.answer-status.new.shelf)
+    (g.K.Sink.state c.args.out.now) (g.K.Sink.state c.answer-status.new.out) c.answer-status.result c.answer-status.ensures.ends
+
+pub returns-clause-prints : goal.returns-clause-prints
+returns-clause-prints g c =
+    c.answers_keep_the_promises.ensures.prints (command_of (map string_bytes c.args.words.now)) (g.S.Shelf.state c.args.shelf.now)
+    (g.S.Shelf.state c.answer-status.new.shelf)
+    (g.K.Sink.state c.args.out.now) (g.K.Sink.state c.answer-status.new.out) c.answer-status.result c.answer-status.ensures.ends
+
+pub returns-clause-leaves : goal.returns-clause-leaves
+returns-clause-leaves g c =
+    c.answers_keep_the_promises.ensures.leaves (command_of (map string_bytes c.args.words.now)) (g.S.Shelf.state c.args.shelf.now)
+    (g.S.Shelf.state c.answer-status.new.shelf)
+    (g.K.Sink.state c.args.out.now) (g.K.Sink.state c.answer-status.new.out) c.answer-status.result c.answer-status.ensures.ends
+
+pub returns-clause-no_part : goal.returns-clause-no_part
+returns-clause-no_part g c =
+    c.answers_keep_the_promises.ensures.no_part (command_of (map string_bytes c.args.words.now)) (g.S.Shelf.state c.args.shelf.now)
+    (g.S.Shelf.state c.answer-status.new.shelf)
+    (g.K.Sink.state c.args.out.now) (g.K.Sink.state c.answer-status.new.out) c.answer-status.result c.answer-status.ensures.ends
+
+pub returns-clause-once : goal.returns-clause-once
+returns-clause-once g c =
+    c.answers_keep_the_promises.ensures.once (command_of (map string_bytes c.args.words.now)) (g.S.Shelf.state c.args.shelf.now)
+    (g.S.Shelf.state c.answer-status.new.shelf)
+    (g.K.Sink.state c.args.out.now) (g.K.Sink.state c.answer-status.new.out) c.answer-status.result c.answer-status.ensures.ends

@@ -1,7 +1,7 @@
 //! What `make` and `run` print and save.
 
-use super::{answers, shelf_with_script};
-use io_base::{CallKind, MemShelf, OutOfMemory};
+use super::{answers, end_of, shelf_with_script};
+use io_base::{CallKind, MemShelf, MemSink, OutOfMemory};
 use replies::Status;
 use std::alloc::Global;
 use std::test::Fail;
@@ -121,5 +121,49 @@ fn a_file_that_is_not_saved_is_told(rt: HostRuntime) -> Result<(), Fail> {
     shelf.fail(CallKind::Append, 3)?;
     let text = b"cannot save o.p0.bpnf\n";
     assert!(rt; answers(rt.alloc(), &mut shelf, &MAKE, Status::ShelfFault, text)?);
+    Ok(())
+}
+
+#[test]
+fn a_first_read_that_fails_is_told_and_nothing_is_saved(rt: HostRuntime) -> Result<(), Fail> {
+    let mut shelf = shelf_with_script(rt.alloc(), LOOP, b"")?;
+    shelf.fail(CallKind::Read, 1)?;
+    let text = b"cannot read s\n";
+    assert!(rt; answers(rt.alloc(), &mut shelf, &MAKE, Status::ShelfFault, text)?);
+    assert!(rt; shelf.file("o.map").is_none());
+    Ok(())
+}
+
+#[test]
+fn a_first_write_that_fails_leaves_the_saved_files(rt: HostRuntime) -> Result<(), Fail> {
+    let mut shelf = shelf_with_script(rt.alloc(), LOOP, b"")?;
+    let mut out = MemSink::new(rt.alloc());
+    out.fail(1)?;
+    assert!(rt; end_of(rt.alloc(), &mut shelf, &mut out, &MAKE)? == Status::SinkFault);
+    assert!(rt; out.bytes().is_empty());
+    assert!(rt; holds(&shelf, "o.map", b"A 0.0 00 JCC 0\n"));
+    Ok(())
+}
+
+// Sets the highest K bit of the first word of a source with one K bit and PROMs of 4 bits, where it is saved as `o`.
+fn set_first_mask(alloc: Global, shelf: &mut MemShelf) -> Result<(), OutOfMemory> {
+    // Bit 18 of the word is bit 2 of the image 4, and the letters of a frame begin with bit 3.
+    let mut image = Vec::from_slice(alloc, shelf.file("o.p4.bpnf").unwrap_or(&[]))?;
+    if image.len() > 2 {
+        image[2] = b'P';
+    }
+    shelf.put_file("o.p4.bpnf", &image)
+}
+
+#[test]
+fn a_right_shift_with_a_mask_is_not_run(rt: HostRuntime) -> Result<(), Fail> {
+    let source = b"slices 1\nstart A\npin A 0 0\nA: SRA AC | goto A\n";
+    let mut shelf = shelf_with_script(rt.alloc(), source, b"")?;
+    let mut out = MemSink::new(rt.alloc());
+    assert!(rt; end_of(rt.alloc(), &mut shelf, &mut out, &MAKE)? == Status::Done);
+    set_first_mask(rt.alloc(), &mut shelf)?;
+    let words = ["run", "o", "t", "clocks=1"];
+    let text = b"refused o cell 0.0 ShiftMask\n";
+    assert!(rt; answers(rt.alloc(), &mut shelf, &words, Status::Input, text)?);
     Ok(())
 }

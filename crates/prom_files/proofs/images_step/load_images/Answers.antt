@@ -1,5 +1,5 @@
 use Rattle.std.proofs.Common.{◌∙◌, refl}
-use Rattle.saved_files.proofs.ComposingStates.{goes_on_same, goes_on_both}
+use Rattle.saved_files.proofs.ComposingStates.{goes_on_same, goes_on_both, no_change_same, no_change_both}
 use Rattle.prom_files.proofs.ImageSteps.{HasImages-none, HasImages-push, ImagesReply-stop}
 use Rattle.prom_files.proofs.images_step.load_images.Goals as goal
 
@@ -7,6 +7,7 @@ pub loop-number-init : goal.loop-number-init
 loop-number-init g c = record {
   had = HasImages-none c.args.out.now c.args.bits (g.S.Shelf.state c.args.shelf.now) _ c.new-images.ensures.items;
   same = refl;
+  no_change = no_change_same (g.S.Shelf.state c.args.shelf.now);
   goes_on = goes_on_same (g.S.Shelf.state c.args.shelf.now);
 }
 
@@ -18,6 +19,8 @@ loop-number-preserved g c = record {
       (g.S.Shelf.state c.loop-number.shelf) (g.S.Shelf.state c.load_numbered.new.shelf) c.loop-number.images.items c.in-Ok.image
       c.loop-number.invariant.had c.in-Ok.ensures.step);
   same = c.in-Ok.ensures.same ∙ c.loop-number.invariant.same;
+  no_change = no_change_both (g.S.Shelf.state c.args.shelf.now) (g.S.Shelf.state c.loop-number.shelf)
+      (g.S.Shelf.state c.load_numbered.new.shelf) c.loop-number.invariant.no_change c.in-Ok.ensures.no_change;
   goes_on = goes_on_both (g.S.Shelf.state c.args.shelf.now) (g.S.Shelf.state c.loop-number.shelf)
       (g.S.Shelf.state c.load_numbered.new.shelf) c.loop-number.invariant.goes_on c.in-Ok.ensures.goes_on;
 }
