@@ -153,4 +153,4 @@ pub fn place_and_save<S: Shelf, K: Sink>(
 }
 
 #[cfg(test)]
-mod tests;
+pub(crate) mod tests;

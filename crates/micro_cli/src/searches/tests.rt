@@ -72,7 +72,7 @@ B: NOP R0 | goto B
 ";
 
 /// Seventeen labels in the sixteen cells of one row.
-const PIGEONHOLE: &[u8] = b"slices 1
+pub(crate) const PIGEONHOLE: &[u8] = b"slices 1
 rows 1
 start A
 pin P1 0 1

@@ -1,11 +1,14 @@
 //! Whole runs over shelves and sinks in memory: that they succeed with ample memory, and what they print.
 
+mod damaged;
+mod faults;
 mod fetch_execute;
 mod flows;
 mod limits;
 mod makes;
 mod maps;
 mod misread;
+mod outcomes;
 mod outside;
 mod pin_refusals;
 mod sources;

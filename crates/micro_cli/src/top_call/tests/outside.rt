@@ -1,10 +1,8 @@
 //! What the words, the shelf and the sink decide.
-ghost use Rattle.std.specs.Prelude.{◌≤◌, length};
-ghost use Rattle.io_base.specs.Shelf.{ShelfState};
 
 use super::sources::{THREE_CELLS, THREE_CELLS_MAP};
 use super::{answers, end_of, shelf_with};
-use io_base::{CallKind, Failed, MemShelf, MemSink, OutOfMemory, Shelf};
+use io_base::{CallKind, MemShelf, MemSink, OutOfMemory};
 use replies::Status;
 use std::alloc::Global;
 use std::test::Fail;
@@ -84,47 +82,5 @@ fn a_failing_write_is_told(rt: HostRuntime) -> Result<(), Fail> {
     let alloc = rt.alloc();
     assert!(rt; maps_unless_write_fails(alloc, 1, Status::SinkFault, b"")?);
     assert!(rt; maps_unless_write_fails(alloc, 2, Status::Done, THREE_CELLS_MAP)?);
-    Ok(())
-}
-
-/// A shelf whose reads give one byte at a time.
-#[derive(Drop)]
-struct OneByteShelf {
-    files: MemShelf,
-}
-
-impl Shelf for OneByteShelf {
-    ghost use Rattle.io_base.specs.MemShelf.{shelf_of};
-
-    ghost state = { λ shelf. shelf_of shelf.files };
-
-    fn read_at(&mut self, name: &str, at: u64, buf: &mut [u8]) -> Result<Option<usize>, Failed> {
-        let room = buf.len().min(1);
-        self.files.read_at(name, at, &mut buf[..room])
-    }
-
-    fn create(&mut self, name: &str) -> Result<(), Failed> {
-        self.files.create(name)
-    }
-
-    fn append(&mut self, name: &str, piece: &[u8]) -> Result<(), Failed> {
-        self.files.append(name, piece)
-    }
-}
-
-#[test]
-fn short_reads_answer_the_same(rt: HostRuntime) -> Result<(), Fail> {
-    let files = shelf_with(rt.alloc(), THREE_CELLS)?;
-    let mut shelf = OneByteShelf { files };
-    let words = ["map", "s"];
-    assert!(rt;
-        answers(
-            rt.alloc(),
-            &mut shelf,
-            &words,
-            Status::Done,
-            THREE_CELLS_MAP
-        )?
-    );
     Ok(())
 }
