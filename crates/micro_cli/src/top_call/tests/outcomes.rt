@@ -63,7 +63,7 @@ pub fn shelf_of(alloc: Global, case: &Case) -> Result<MemShelf, OutOfMemory> {
     Ok(shelf)
 }
 
-/// Runs a case in which a call is to fail, with reads of at most so many bytes.
+/// Runs a case in which a call is to fail, with reads of at most so many bytes, at least 1.
 pub fn run_case(
     alloc: Global,
     case: &Case,
@@ -72,7 +72,7 @@ pub fn run_case(
 ) -> Result<Run, OutOfMemory> {
     let mut shelf = shelf_of(alloc, case)?;
     let mut out = MemSink::new(alloc);
-    shelf.set_piece(piece);
+    shelf.set_piece(piece.max(1));
     match failing {
         Failing::Nothing => {}
         Failing::Call(kind, number) => shelf.fail(kind, number)?,
